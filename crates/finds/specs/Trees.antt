@@ -1,6 +1,6 @@
 -- Trees of orders (PQ-trees): what is bound together, what may be put in whatever order, and what may only be turned round.
 use mathlib.Core.List.{List, [], _∷_, _++_}
-use Prim.Native.Nat.{ℕ, suc, _≤_}
+use Prim.Native.Nat.{ℕ, zero, suc, _≤_}
 
 -- A tree is a grave (a leaf); or has branches that may stand in any order (a P node); or has branches that stand in a row, which may be turned round (a Q node).
 mutual
@@ -62,3 +62,26 @@ abbrev mutual
   pub Goods : Trees → Type 0
   Goods none = Unit {0}
   Goods (more t ts) = Good t × Goods ts
+
+-- The graves of a tree, read from left to right as it stands.
+abbrev mutual
+  pub graves : Tree → List ℕ
+  graves (grave g) = g ∷ []
+  graves (any ts) = all-graves ts
+  graves (row ts) = all-graves ts
+
+  -- The graves of the branches, one branch after the other.
+  pub all-graves : Trees → List ℕ
+  all-graves none = []
+  all-graves (more t ts) = graves t ++ all-graves ts
+
+-- The graves i, i + 1 and so on, m of them, each a branch of its own.
+abbrev pub graves-from : ℕ → ℕ → Trees
+graves-from i zero = none
+graves-from i (suc m) = more (grave i) (graves-from (suc i) m)
+
+-- The tree without kinds: one grave is a tree by itself, and more graves may stand in any order.
+abbrev pub start : ℕ → Tree
+start zero = any none
+start (suc zero) = grave 0
+start (suc (suc m)) = any (graves-from 0 (suc (suc m)))
