@@ -1,4 +1,5 @@
 pub mod Parity
+pub mod Sets
 pub mod Finds
 pub mod Trees
 pub mod Exactness

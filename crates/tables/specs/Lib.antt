@@ -1,0 +1,4 @@
+pub mod Format
+pub mod Room
+pub mod Refusals
+pub mod Reading

@@ -1,0 +1,5 @@
+// Tables of finds: the reader of their files, and the checker of an order from elsewhere.
+mod reading;
+pub mod refusal;
+pub mod room;
+pub mod stored;
