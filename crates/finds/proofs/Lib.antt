@@ -1,2 +1,4 @@
 pub mod Parity
 pub mod Laws
+pub mod Branches
+pub mod Counts
