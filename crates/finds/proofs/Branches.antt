@@ -1,9 +1,9 @@
 -- Lists of branches: one after the other, turned round, and put in another order.
-use mathlib.Core.Path.{_≡_, refl, sym, ap, subst, _∙_}
+use mathlib.Core.Path.{_≡_, refl, sym, ap, _∙_}
 use mathlib.Core.Logic.{_⊎_, inl, inr}
-use Prim.Native.Nat.{ℕ, suc, _+_}
+use Prim.Native.Nat.{_+_}
 use native.Mathlib.Omega.{arith}
-use Rattle.finds.specs.Trees.{Tree, Trees, none, more, Mixed, no-more, put, Put, first, after, Turned, empty, last, At-end, alone, behind, len, Good, Goods}
+use Rattle.finds.specs.Trees.{Tree, Trees, none, more, Mixed, no-more, put, Put, first, after, Turned, empty, last, At-end, alone, behind, len, Goods}
 
 -- The first branches and then the second.
 infixr 50 _+++_
@@ -93,7 +93,7 @@ put-around (after {u = u} p) =
     let r = put-around p in record { left = more u (r .left); right = r .right; out = ap (more u) (r .out); with-it = ap (more u) (r .with-it) }
 
 -- If t is put in before u, it may be put in after u.
-put-put : {u t : Tree} {w' w v : Trees} → Put t w' w → Put u w v → (v' : Trees) × Put u w' v' × Put t v' v
+pub put-put : {u t : Tree} {w' w v : Trees} → Put t w' w → Put u w v → (v' : Trees) × Put u w' v' × Put t v' v
 put-put {u} {t} {w'} p first = (more u w', first, after p)
 put-put first (after q) = (_, q, first)
 put-put (after p) (after q) = let r = put-put p q in (more _ (r .0), after (r .1), after (r .2))
@@ -117,7 +117,7 @@ pub mixed-trans : {ts us vs : Trees} → Mixed ts us → Mixed us vs → Mixed t
 mixed-trans no-more m = m
 mixed-trans (put m p) n = let r = mixed-out p n in put (mixed-trans m (r .1)) (r .2)
 
-put-front : {t : Tree} {us vs : Trees} → Put t us vs → Mixed vs (more t us)
+pub put-front : {t : Tree} {us vs : Trees} → Put t us vs → Mixed vs (more t us)
 put-front first = mixed-refl _
 put-front (after p) = put (put-front p) (after first)
 

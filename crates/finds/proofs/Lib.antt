@@ -2,3 +2,5 @@ pub mod Parity
 pub mod Laws
 pub mod Branches
 pub mod Counts
+pub mod Start
+pub mod Worked
