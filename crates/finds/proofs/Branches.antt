@@ -4,17 +4,7 @@ use mathlib.Core.Logic.{_⊎_, inl, inr}
 use Prim.Native.Nat.{_+_}
 use native.Mathlib.Omega.{arith}
 use Rattle.finds.specs.Trees.{Tree, Trees, none, more, Mixed, no-more, put, Put, first, after, Turned, empty, last, At-end, alone, behind, len, Goods}
-
--- The first branches and then the second.
-infixr 50 _+++_
-abbrev pub _+++_ : Trees → Trees → Trees
-none +++ us = us
-(more t ts) +++ us = more t (ts +++ us)
-
--- The branches turned round.
-abbrev pub revs : Trees → Trees
-revs none = none
-revs (more t ts) = revs ts +++ more t none
+pub use Rattle.finds.specs.Branches.{_+++_, revs}
 
 -- P holds of each branch.
 abbrev pub Alls : (Tree → Type 0) → Trees → Type 0
