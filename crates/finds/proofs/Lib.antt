@@ -1,2 +1,6 @@
 pub mod Parity
 pub mod Laws
+pub mod Branches
+pub mod Counts
+pub mod Start
+pub mod Worked

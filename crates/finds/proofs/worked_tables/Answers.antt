@@ -1,0 +1,5 @@
+use Rattle.finds.proofs.Worked.{worked-tables}
+use Rattle.finds.proofs.worked_tables.Needs as need
+
+pub returns : need.returns
+returns c = worked-tables
