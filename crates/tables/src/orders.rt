@@ -79,3 +79,35 @@ fn first_between(order: &[u8], set: u64) -> Option<usize>
     }
     None
 }
+
+// The verdict on an order of the table's graves: the first kind that is torn, if any.
+fn judge(table: Table, order: &[u8]) -> Verdict
+    requires few { ⌜ table .graves ≤ 64 ⌝ }
+    requires short { ⌜ length (now (table .kinds)) ≤ 1024 ⌝ }
+    requires good { ⌜ Good-order (table .graves) (now order) ⌝ }
+    ensures { λ r. ⌜ Judged (finds-in (table .entry .graves) (now (table .entry .kinds))) (now (order .entry)) r ⌝ }
+{
+    for kind in 0..table.kinds.len() / 8 {
+        if let Some(place) = first_between(order, kind_at(table.kinds, kind)) {
+            return Verdict::Torn {
+                kind,
+                grave: order[place],
+            };
+        }
+    }
+    Verdict::Fitting
+}
+
+// Whether the order fits the table of the file, or the first kind and grave that tear it; or the first refusal that applies, of the table and then of the order.
+pub fn verify_order(file: &[u8], order: &[u8]) -> Result<Verdict, Refusal>
+    ensures { λ r. ⌜ Order-answer (now (file .entry)) (now (order .entry)) r ⌝ }
+{
+    let table = read(file, None)?;
+    if order.len() != table.graves as usize {
+        return Err(Refusal::BadOrder(order.len()));
+    }
+    if let Some(place) = bad_place(order, table.graves) {
+        return Err(Refusal::BadOrder(place));
+    }
+    Ok(judge(table, order))
+}
