@@ -12,8 +12,8 @@ more p i e = ap (λ (x : ℕ). x * (i + 1)) e ∙ sym (factorial-more i)
 pub returns-in-rest : need.returns-in-rest
 returns-in-rest c =
     λ l.
-      let e = more (c .loop-i .product) (c .loop-i .i) (c .loop-i .inv .0) in let g = factorial-grows (c .loop-i .i + 1) (c .args .n) (omega arith) in
-      c .in-rest .ensures tt (omega arith)
+    let e = more (c .loop-i .product) (c .loop-i .i) (c .loop-i .inv .0) in let g = factorial-grows (c .loop-i .i + 1) (c .args .n) (omega arith) in
+    c .in-rest .ensures tt (omega arith)
 
 pub loop-i-again : need.loop-i-again
 loop-i-again c = let h = c .in-Some .ensures tt in (h .1 ∙ more (c .loop-i .product) (c .loop-i .i) (c .loop-i .inv .0), omega arith)
