@@ -20,6 +20,21 @@ pub ⊕-not : (a b : Bool) → not (a ⊕ b) ≡ a ⊕ not b
 ⊕-not a true = not-not a
 ⊕-not a false = refl
 
+pub not-⊕ : (a b : Bool) → not a ⊕ b ≡ a ⊕ not b
+not-⊕ a true = not-not a
+not-⊕ a false = refl
+
+pub ⊕-twice : (a b : Bool) → a ⊕ b ⊕ b ≡ a
+⊕-twice a true = not-not a
+⊕-twice a false = refl
+
+-- Of two truth values that differ each is the other's negation.
+pub differ : (a b : Bool) → a ≢ b → b ≡ not a
+differ true true h = absurd (h refl)
+differ true false h = refl
+differ false true h = refl
+differ false false h = absurd (h refl)
+
 -- No truth value is its own negation.
 pub not-same : (b : Bool) → b ≢ not b
 not-same true e = true≢false e
