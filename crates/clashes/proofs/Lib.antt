@@ -1,1 +1,4 @@
 pub mod Clashes
+pub mod Walks
+pub mod Labels
+pub mod Colours
