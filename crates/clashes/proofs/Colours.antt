@@ -9,9 +9,9 @@ use lib.ListN.{length}
 use Rattle.finds.specs.Finds.{Finds, Pair, Clash, turned, between, Ground}
 use Rattle.finds.proofs.Parity.{_⊕_, ⊕-twice, differ}
 use Rattle.clashes.specs.Colours.{pair, Reach, Label, flip, Holds, Colouring}
-use Rattle.clashes.specs.Rings.{Joint, lay, Parts}
+use Rattle.clashes.specs.Rings.{Joint, lay}
 use Rattle.clashes.specs.Theorems.{Colours-or-ground}
-use Rattle.clashes.proofs.Clashes.{same-pair, parts, parted}
+use Rattle.clashes.proofs.Clashes.{same-pair, parts}
 use Rattle.clashes.proofs.Walks.{stay, step, join, return}
 use Rattle.clashes.proofs.Labels.{flip-flip, odd-ring, relabel, relabel-yes, relabel-no, relabel-flip, relabel-holds}
 
@@ -111,7 +111,7 @@ module _ (f : Finds) where
   If X p q x y = X × ((x ≡ p) × (y ≡ q))
 
   test : {X : Type 0} (p q : Pair) → Dec X → (X → Clash f p q) → Can (If X p q)
-  test p q (yes h) c s = ⊎-elim inl (λ t. inr (t .0, λ x y. ⊎-elim (λ k. t .1 x y (inl k)) (λ e. t .1 x y (inr (e .1))))) (meet p q (c h) s)
+  test p q (yes h) c s = both {F = λ _ _. ⊥} (meet p q (c h)) (idle (λ x y e. e)) (λ x y e. inl (e .1)) s
   test p q (no h) c s = idle (λ x y e. h (e .0)) s
 
   -- The kind number i lay in a and c and not in b.
