@@ -23,7 +23,7 @@ module _ {f : Finds} (v : Colouring f) where
     pub is : v .label (pair a b) .col ≡ false
 
   -- Then b is not before a.
-  not-so : {a b : ℕ} → So a b → v .label (pair b a) .col ≡ true
+  pub not-so : {a b : ℕ} → So a b → v .label (pair b a) .col ≡ true
   not-so {a} {b} s = same-col (op-flips v (pair a b) (s .proper)) ∙ ap not (s .is)
 
   -- A pair that is not so is so turned round.

@@ -4,3 +4,6 @@ pub mod Labels
 pub mod Colours
 pub mod Triangle
 pub mod Circle
+pub mod Counts
+pub mod Tournament
+pub mod Orders
