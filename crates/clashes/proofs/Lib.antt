@@ -7,3 +7,6 @@ pub mod Circle
 pub mod Counts
 pub mod Tournament
 pub mod Orders
+pub mod Paths
+pub mod Cut
+pub mod Short
