@@ -7,6 +7,6 @@ pub mod Circle
 pub mod Counts
 pub mod Tournament
 pub mod Orders
-pub mod Paths
+pub mod Chains
 pub mod Cut
 pub mod Short

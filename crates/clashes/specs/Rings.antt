@@ -28,6 +28,11 @@ pub record Parts (f : Finds) (a b c : ℕ) : Type 0 where
   pub lacks : lay f kind b ≡ false
   pub has-c : lay f kind c ≡ true
 
+-- Chain f p l q: the pairs of l, from p on, each clash with the next, and the last of them with q. Without pairs it stays at p.
+pub data Chain (f : Finds) : Pair → List Pair → Pair → Type 0 where
+  none : {p : Pair} → Chain f p [] p
+  link : {p q r : Pair} {l : List Pair} → Joint f p q → Chain f q l r → Chain f p (p ∷ l) r
+
 -- The place after i in a ring of n: the next one, and after the last the first.
 abbrev pub after : ℕ → ℕ → ℕ
 after n i = cond (eqb (i + 1) n) 0 (i + 1)

@@ -1,4 +1,4 @@
-use Rattle.clashes.proofs.Paths.{closes-ground}
+use Rattle.clashes.proofs.Chains.{closes-ground}
 use Rattle.clashes.proofs.closes_ground.Needs as need
 
 pub returns : need.returns

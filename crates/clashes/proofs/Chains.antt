@@ -1,4 +1,4 @@
--- Paths of clashing pairs as lists: one that comes back is a ring, and what closes is a ground.
+-- Chains of clashing pairs: one that comes back is a ring, and what closes is a ground.
 use mathlib.Core.Path.{_≡_, refl, sym, ap, subst, _∙_}
 use mathlib.Core.Logic.{_≢_, Ne·symm, inl, inr}
 use mathlib.Core.Bool.{Bool, true, not, cond, false≢true}
@@ -14,15 +14,10 @@ use Rattle.std.proofs.shelf.Lists.{getD-default, getD-past}
 use Rattle.finds.specs.Finds.{Finds, Pair, Ground}
 use Rattle.finds.specs.Parity.{odd}
 use Rattle.clashes.specs.Colours.{pair, Proper, Reach}
-use Rattle.clashes.specs.Rings.{Joint, after, at, Closes, Lacks, Once, Ring}
+use Rattle.clashes.specs.Rings.{Joint, Chain, none, link, after, at, Closes, Once, Ring}
 use Rattle.clashes.specs.Theorems.{Closes-ground}
 use Rattle.clashes.proofs.Clashes.{joint-left}
 use Rattle.clashes.proofs.Walks.{said-as, stay, step, ground}
-
--- Path f p l q: the pairs of l, from p on, each clash with the next, and the last of them with q. Without a pair it stays at p.
-pub data Path (f : Finds) : Pair → List Pair → Pair → Type 0 where
-  none : {p : Pair} → Path f p [] p
-  link : {p q r : Pair} {l : List Pair} → Joint f p q → Path f q l r → Path f p (p ∷ l) r
 
 -- The next place within the list, and the place after the last.
 after-within : (n i : ℕ) → suc i < n → after n i ≡ suc i
@@ -32,33 +27,33 @@ after-last : (n i : ℕ) → suc i ≡ n → after n i ≡ 0
 after-last n i h = rw (eq-eqb (i + 1) n (omega arith)) refl
 
 module _ {f : Finds} where
-  pub path-append : {p q r : Pair} {l m : List Pair} → Path f p l q → Path f q m r → Path f p (l ++ m) r
-  path-append none d = d
-  path-append (link j c) d = link j (path-append c d)
+  pub chain-append : {p q r : Pair} {l m : List Pair} → Chain f p l q → Chain f q m r → Chain f p (l ++ m) r
+  chain-append none d = d
+  chain-append (link j c) d = link j (chain-append c d)
 
-  pub path-proper : {p q : Pair} {l : List Pair} → Path f p l q → All (Proper f) l
-  path-proper none = tt
-  path-proper (link j c) = (joint-left j, path-proper c)
+  pub chain-proper : {p q : Pair} {l : List Pair} → Chain f p l q → All (Proper f) l
+  chain-proper none = tt
+  chain-proper (link j c) = (joint-left j, chain-proper c)
 
-  path-first : {p q : Pair} {l : List Pair} → Path f p l q → getD l 0 q ≡ p
-  path-first none = refl
-  path-first (link j c) = refl
+  chain-first : {p q : Pair} {l : List Pair} → Chain f p l q → getD l 0 q ≡ p
+  chain-first none = refl
+  chain-first (link j c) = refl
 
   -- Each pair clashes with what stands at the next place, where q stands at the place past the end.
-  path-links : {p q : Pair} {l : List Pair} (d : Pair) → Path f p l q → (i : ℕ) → i < length l → Joint f (getD l i d) (getD l (suc i) q)
-  path-links d none i h = absurd (omega arith)
-  path-links d (link {p = p} j c) zero h = subst (Joint f p) (sym (path-first c)) j
-  path-links d (link j c) (suc i) h = path-links d c i (omega arith)
+  chain-links : {p q : Pair} {l : List Pair} (d : Pair) → Chain f p l q → (i : ℕ) → i < length l → Joint f (getD l i d) (getD l (suc i) q)
+  chain-links d none i h = absurd (omega arith)
+  chain-links d (link {p = p} j c) zero h = subst (Joint f p) (sym (chain-first c)) j
+  chain-links d (link j c) (suc i) h = chain-links d c i (omega arith)
 
-  path-closes : {p : Pair} {l : List Pair} → Path f p l p → Closes f l
-  path-closes {p} {l} c i h = subst (Joint f (at l i)) (go (ℕ-discrete (suc i) (length l))) (path-links (pair 0 0) c i h)
+  chain-closes : {p : Pair} {l : List Pair} → Chain f p l p → Closes f l
+  chain-closes {p} {l} c i h = subst (Joint f (at l i)) (go (ℕ-discrete (suc i) (length l))) (chain-links (pair 0 0) c i h)
     where
       go : Dec (suc i ≡ length l) → getD l (suc i) p ≡ at l (after (length l) i)
-      go (yes e) = getD-past l (suc i) p (omega arith) ∙ sym (path-first c) ∙ getD-default l 0 p (pair 0 0) (omega arith) ∙ ap (at l) (sym (after-last (length l) i e))
+      go (yes e) = getD-past l (suc i) p (omega arith) ∙ sym (chain-first c) ∙ getD-default l 0 p (pair 0 0) (omega arith) ∙ ap (at l) (sym (after-last (length l) i e))
       go (no ne) = getD-default l (suc i) p (pair 0 0) (omega arith) ∙ ap (at l) (sym (after-within (length l) i (omega arith)))
 
-  pub ring : {p : Pair} {l : List Pair} → Path f p l p → odd (length l) ≡ true → Once l → Ring f
-  ring {l = l} c e o = record { pairs = l; closes = path-closes c; uneven = e; once = o }
+  pub ring : {p : Pair} {l : List Pair} → Chain f p l p → odd (length l) ≡ true → Once l → Ring f
+  ring {l = l} c e o = record { pairs = l; closes = chain-closes c; uneven = e; once = o }
 
 -- Round a list that closes: from the first pair to the last in one step less than there are pairs, and on to the first.
 pub closes-ground : Closes-ground
