@@ -10,3 +10,4 @@ pub mod Orders
 pub mod Chains
 pub mod Cut
 pub mod Short
+pub mod Search
