@@ -45,14 +45,15 @@ module _ {f : Finds} where
   chain-links d (link {p = p} j c) zero h = subst (Joint f p) (sym (chain-first c)) j
   chain-links d (link j c) (suc i) h = chain-links d c i (omega arith)
 
-  chain-closes : {p : Pair} {l : List Pair} → Chain f p l p → Closes f l
+  pub chain-closes : {p : Pair} {l : List Pair} → Chain f p l p → Closes f l
   chain-closes {p} {l} c i h = subst (Joint f (at l i)) (go (ℕ-discrete (suc i) (length l))) (chain-links (pair 0 0) c i h)
     where
       go : Dec (suc i ≡ length l) → getD l (suc i) p ≡ at l (after (length l) i)
       go (yes e) = getD-past l (suc i) p (omega arith) ∙ sym (chain-first c) ∙ getD-default l 0 p (pair 0 0) (omega arith) ∙ ap (at l) (sym (after-last (length l) i e))
       go (no ne) = getD-default l (suc i) p (pair 0 0) (omega arith) ∙ ap (at l) (sym (after-within (length l) i (omega arith)))
 
-  pub ring : {p : Pair} {l : List Pair} → Chain f p l p → odd (length l) ≡ true → Once l → Ring f
+  -- A chain that comes back is a ring, if it is odd and has no pair twice.
+  abbrev pub ring : {p : Pair} {l : List Pair} → Chain f p l p → odd (length l) ≡ true → Once l → Ring f
   ring {l = l} c e o = record { pairs = l; closes = chain-closes c; uneven = e; once = o }
 
 -- Round a list that closes: from the first pair to the last in one step less than there are pairs, and on to the first.

@@ -11,3 +11,4 @@ pub mod Chains
 pub mod Cut
 pub mod Short
 pub mod Search
+pub mod Readback

@@ -53,6 +53,10 @@ pub record Adds (Seen Done : Pair → Type 0) (mark : Pair → Mark) (r : Pair) 
   pub done : (p : Pair) → Done p ↔ Done′ p
   pub old : (p : Pair) → Seen p → mark′ p ≡ mark p
 
+-- What is written while p and q are the ends of the legs: q itself, or a pair other than p that is as deep as both.
+abbrev pub Under : (Pair → Mark) → Pair → Pair → Pair → Type 0
+Under mark p q x = (x ≡ q) ⊎ ((x ≢ p) × (mark p .depth ≤ mark x .depth) × (mark q .depth ≤ mark x .depth))
+
 -- Two legs of a ring that grow towards each other, up the parents from two clashing pairs of one component and one colour.
 -- Written are u, which goes up from the one to before p, and v, which goes down from q to the other.
 pub record Legs (f : Finds) (Seen : Pair → Type 0) (mark : Pair → Mark) (p q : Pair) (u v : List Pair) : Type 0 where
@@ -62,7 +66,6 @@ pub record Legs (f : Finds) (Seen : Pair → Type 0) (mark : Pair → Mark) (p q
   pub seen-p : Seen p
   pub seen-q : Seen q
   pub one-seed : mark p .seed ≡ mark q .seed
-  -- All that is written, but for q, is not p and is as deep as p and q are.
-  pub low : All (λ x. (x ≡ q) ⊎ ((x ≢ p) × (mark p .depth ≤ mark x .depth) × (mark q .depth ≤ mark x .depth))) (u ++ v)
+  pub under : All (Under mark p q) (u ++ v)
   pub once : Once (u ++ v)
   pub uneven : (length u + length v + (mark p .depth + mark q .depth)) % 2 ≡ 1
