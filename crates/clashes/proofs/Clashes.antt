@@ -1,5 +1,5 @@
 -- Clashing pairs: the kind that makes them clash, what it says of a fourth grave, and all that clashes with a pair.
-use mathlib.Core.Path.{_≡_, refl, sym, ap, _∙_}
+use mathlib.Core.Path.{_≡_, refl, sym, ap, subst, _∙_}
 use mathlib.Core.Logic.{_⊎_, inl, inr, _≢_, Ne·symm, Dec·and, Dec·of-iff}
 use mathlib.Core.Bool.{Bool, true, false}
 use Prim.Native.Nat.{ℕ, _<_}
@@ -92,6 +92,17 @@ module _ {f : Finds} where
   joint-op (inl c) = inr c
   joint-op (inr c) = inl c
 
-  -- No pair clashes with itself.
-  pub joint-apart : {p q : Pair} → Joint f p q → p ≢ q
-  joint-apart {p} j = neighbour j (λ q. p ≢ q) (λ e. joint-left j .2 (first-of e)) (λ c s e. joint-left j .2 (first-of e)) (λ c s e. joint-left j .2 (sym (second-of e)))
+-- ---- deciding a clash
+
+-- What is to be tested of two pairs: that the second is the first turned round, or goes on from it or leads up to it, with a kind that parts the three graves.
+abbrev pub Tested : Finds → Pair → Pair → Type 0
+Tested f p q = (q ≡ op p)
+    ⊎ (((q .first ≡ p .second) × Parts f (p .first) (p .second) (q .second)) ⊎ ((q .second ≡ p .first) × Parts f (q .first) (p .first) (p .second)))
+
+pub joint-tested : {f : Finds} {p q : Pair} → Joint f p q → Tested f p q
+joint-tested {f} {p} j = neighbour j (Tested f p) (inl refl) (λ c s. inr (inl (refl, s))) (λ c s. inr (inr (refl, s)))
+
+pub tested-joint : (f : Finds) (p q : Pair) → Proper f p → Tested f p q → Joint f p q
+tested-joint f p q h (inl e) = subst (Joint f p) (sym e) (inl (opposed p h))
+tested-joint f p q h (inr (inl s)) = subst (λ (b : ℕ). Joint f p (pair b (q .second))) (sym (s .0)) (inl (parted (s .1)))
+tested-joint f p q h (inr (inr s)) = subst (λ (a : ℕ). Joint f p (pair (q .first) a)) (sym (s .0)) (inr (parted (s .1)))

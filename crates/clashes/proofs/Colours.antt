@@ -8,11 +8,11 @@ use native.Mathlib.Decide.{ℕ-discrete, decLe}
 use lib.ListN.{length}
 use Rattle.finds.specs.Finds.{Finds, Pair, Clash, turned, between, Ground}
 use Rattle.finds.proofs.Parity.{_⊕_, ⊕-twice, differ}
-use Rattle.clashes.specs.Colours.{pair, Reach, Label, flip, Holds, Colouring}
+use Rattle.clashes.specs.Colours.{pair, Reach, Label, flip, Holds}
 use Rattle.clashes.specs.Rings.{Joint, lay}
 use Rattle.clashes.specs.Theorems.{Colours-or-ground}
 use Rattle.clashes.proofs.Clashes.{same-pair, parts}
-use Rattle.clashes.proofs.Walks.{stay, step, join, return}
+use Rattle.clashes.proofs.Walks.{stay, step, return}
 use Rattle.clashes.proofs.Labels.{flip-flip, odd-ring, relabel, relabel-yes, relabel-no, relabel-flip, relabel-holds}
 
 -- A label for each pair that holds. At first each pair is its own seed.

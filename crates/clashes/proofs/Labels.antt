@@ -1,7 +1,7 @@
 -- Labels of pairs: flipped, a label has the other colour; moved, all labels of one seed get another.
 use mathlib.Core.Path.{_≡_, sym, ap, subst, _∙_}
 use mathlib.Core.Logic.{_≢_, ite, if-pos, if-neg, apply-ite, inl}
-use mathlib.Core.Bool.{Bool, true, not}
+use mathlib.Core.Bool.{Bool, true}
 use Prim.Native.Nat.{_≤_}
 use native.Mathlib.Omega.{arith}
 use Rattle.finds.specs.Finds.{Finds, Pair, Clash, Ground}

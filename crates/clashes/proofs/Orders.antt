@@ -1,5 +1,5 @@
 -- The order of a colouring, in which a is before b if the pair (a,b) is so: it fits.
-use mathlib.Core.Path.{_≡_, refl, sym, ap, subst, _∙_}
+use mathlib.Core.Path.{_≡_, refl, sym, ap, _∙_}
 use mathlib.Core.Logic.{_⊎_, inl, inr, _≢_, ⊎-elim, Dec·and, Dec·not, Dec·of-iff}
 use mathlib.Core.Bool.{Bool, true, false, not, Bool-discrete}
 use Prim.Native.Nat.{ℕ, _<_}

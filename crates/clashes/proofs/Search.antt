@@ -9,7 +9,7 @@ use Rattle.finds.specs.Parity.{odd}
 use Rattle.finds.proofs.Parity.{odd-other}
 use Rattle.clashes.specs.Colours.{pair, Proper, Reach, Colouring}
 use Rattle.clashes.specs.Rings.{Joint}
-use Rattle.clashes.specs.Search.{Mark, Child, Root, Rooted, Differ, Search, Adds}
+use Rattle.clashes.specs.Search.{Mark, Child, Root, Differ, Search, Adds}
 use Rattle.clashes.proofs.Clashes.{first-of, clash-left, joint-op, joint-left}
 use Rattle.clashes.proofs.Walks.{stay, step}
 
@@ -45,7 +45,8 @@ module _ {f : Finds} {s : Pair} {Seen Done : Pair → Type 0} {mark : Pair → M
   -- ---- a change of the notes
 
   -- What was seen is still a seed or a child.
-  rooted-still : {Seen′ : Pair → Type 0} {mark′ : Pair → Mark} → ((p : Pair) → Seen p → Seen′ p) → ((p : Pair) → Seen p → mark′ p ≡ mark p) → (p : Pair) → Seen p → Root mark′ p ⊎ Child f Seen′ mark′ p
+  rooted-still : {Seen′ : Pair → Type 0} {mark′ : Pair → Mark} → ((p : Pair) → Seen p → Seen′ p) → ((p : Pair) → Seen p → mark′ p ≡ mark p) →
+      (p : Pair) → Seen p → Root mark′ p ⊎ Child f Seen′ mark′ p
   rooted-still {Seen′} {mark′} keeps old p h = ⊎-elim (λ r. inl (r .0 ∙ sym (mark-seed o), mark-depth o ∙ r .1)) (λ c. inr (child c)) (k .rooted p h)
     where
       o : mark′ p ≡ mark p
@@ -82,7 +83,8 @@ module _ {f : Finds} {s : Pair} {Seen Done : Pair → Type 0} {mark : Pair → M
     pub retold : ((p : Pair) → Seen p ↔ Seen′ p) → ((p : Pair) → Done p ↔ Done′ p) → ((p : Pair) → Seen p → mark′ p ≡ mark p) → Search f s Seen′ Done′ mark′
     retold same done old = grown (λ p. same p .0) old done (λ p h. inl (same p .1 h))
 
-    add : (r : Pair) → Adds Seen Done mark r Seen′ Done′ mark′ → Root mark′ r ⊎ Child f Seen′ mark′ r → mark′ r .seed ≡ s → s .first ≤ r .first → Search f s Seen′ Done′ mark′
+    add : (r : Pair) → Adds Seen Done mark r Seen′ Done′ mark′ → Root mark′ r ⊎ Child f Seen′ mark′ r → mark′ r .seed ≡ s → s .first ≤ r .first →
+        Search f s Seen′ Done′ mark′
     add r a root e low = grown (a .keeps) (a .old) (a .done) (λ p h. ⊎-elim inl (λ x. inr (subst Fresh (sym x) (root, e, low))) (a .only p h))
       where
         Fresh : Pair → Type 0

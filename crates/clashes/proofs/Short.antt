@@ -1,18 +1,24 @@
 -- There are n (n - 1) pairs of different graves, so no ring and no queue of such pairs, none twice, is longer.
-use mathlib.Core.Path.{_≡_, refl, sym, _∙_}
-use mathlib.Core.Logic.{Dec·and, Dec·not}
+use mathlib.Core.Path.{refl, sym, _∙_}
+use mathlib.Core.Logic.{_≢_, Dec·and, Dec·not}
 use mathlib.Core.List.{List, [], _∷_}
-use Prim.Native.Nat.{ℕ, _*_, _-_, _≤_, _<_}
+use Prim.Native.Nat.{ℕ, suc, _*_, _-_, _≤_, _<_}
 use native.Mathlib.Omega.{arith}
 use lib.ListN.{length}
 use Rattle.std.specs.shelf.Lists.{All}
 use Rattle.std.proofs.shelf.Elements.{all-from-getD}
 use Rattle.finds.specs.Finds.{Finds, Pair}
 use Rattle.clashes.specs.Colours.{pair, Proper}
-use Rattle.clashes.specs.Rings.{Lacks, Once}
+use Rattle.clashes.specs.Rings.{at, Lacks, Once}
 use Rattle.clashes.specs.Theorems.{Ring-short}
 use Rattle.clashes.proofs.Clashes.{same-pair, first-of, second-of, joint-left}
 use Rattle.clashes.proofs.Counts.{sum, sum-le, sum-lt, sum-same, one-if, one-if-le, one-if-lt, count, count-few}
+
+-- No pair stands twice in a list, said by places, as an array holds it.
+pub once-at : (l : List Pair) → ((i j : ℕ) → i < j → j < length l → at l i ≢ at l j) → Once l
+once-at [] h = tt
+once-at (p ∷ l) h =
+    (all-from-getD (λ q. p ≢ q) l (pair 0 0) (λ i k. h 0 (suc i) (omega arith) (omega arith)), once-at l (λ i j k m. h (suc i) (suc j) (omega arith) (omega arith)))
 
 lacks? : (p : Pair) (l : List Pair) → Dec (Lacks p l)
 lacks? p [] = yes tt
@@ -49,6 +55,7 @@ module _ (f : Finds) where
   no-self a [] h = tt
   no-self a (q ∷ l) h = ((λ e. h .0 .2 (sym (first-of e) ∙ second-of e)), no-self a l (h .1))
 
+  -- So there is room for a queue, and in it for a pair more that it lacks: with that pair it is still no longer.
   pub pairs-few : (l : List Pair) → Once l → All (Proper f) l → length l ≤ f .graves * (f .graves - 1)
   pairs-few l o h =
       let few : (a : ℕ) → a < f .graves → row l a ≤ f .graves - 1 = λ a la. (let z = count-few (in? l a) (f .graves) a la (λ k. k (no-self a l h)) in omega arith) in

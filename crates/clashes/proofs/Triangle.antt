@@ -34,7 +34,8 @@ module _ {f : Finds} (v : Colouring f) where
   slide-second {x} {y} {z} s = op-flips (pair y x) (clash-left (parted s)) ∙ sym (v .flips (pair y x) (pair x z) (parted s))
 
   slide-first : {x y z : ℕ} → Parts f x y z → v .label (pair x y) ≡ v .label (pair z y)
-  slide-first {x} {y} {z} s = sym (flip-flip (v .label (pair x y))) ∙ ap flip (sym (v .flips (pair x y) (pair y z) (parted s))) ∙ sym (op-flips (pair y z) (clash-right (parted s)))
+  slide-first {x} {y} {z} s = sym (flip-flip (v .label (pair x y)))
+      ∙ ap flip (sym (v .flips (pair x y) (pair y z) (parted s))) ∙ sym (op-flips (pair y z) (clash-right (parted s)))
 
   -- A third grave a from which the pair (b,c) looks unlike both (b,a) and (a,c).
   pub record Apex (a b c : ℕ) : Type 0 where

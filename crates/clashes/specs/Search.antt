@@ -45,10 +45,9 @@ pub record Search (f : Finds) (s : Pair) (Seen Done : Pair → Type 0) (mark : P
   -- All pairs with a lower first grave than s are seen.
   pub swept : (p : Pair) → Proper f p → Seen p ⊎ (s .first ≤ p .first)
 
--- One pair more, r, is seen after the step than before it; all else stays as it was.
+-- At most one pair more, r, is seen after the step than before it; all else stays as it was.
 pub record Adds (Seen Done : Pair → Type 0) (mark : Pair → Mark) (r : Pair) (Seen′ Done′ : Pair → Type 0) (mark′ : Pair → Mark) : Type 0 where
   pub keeps : (p : Pair) → Seen p → Seen′ p
-  pub adds : Seen′ r
   pub only : (p : Pair) → Seen′ p → Seen p ⊎ (p ≡ r)
   pub done : (p : Pair) → Done p ↔ Done′ p
   pub old : (p : Pair) → Seen p → mark′ p ≡ mark p
