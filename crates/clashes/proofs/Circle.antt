@@ -68,9 +68,9 @@ module _ {f : Finds} (v : Colouring f) where
       h : Proper f (seed (pair b c))
       h = walk-proper (v .holds (pair b c) (t .bc .proper) .reached .walk) (t .bc .proper)
 
-  -- In a circle the seed of (b,c) does not begin up to where that of (a,b) does.
-  -- For let (y,z) be the seed of (b,c). The seed of (a,y) is that of (a,b) and, as that of (y,a), begins up to y: so it begins with y.
-  -- But it looks from z as (a,y) does, so (z,y) would have the colour of (z,a).
+  -- In a circle the first grave of the seed of (b,c) is above that of the seed of (a,b).
+  -- Let (y,z) be the seed of (b,c). The seed of (a,y) is that of (a,b), and it is that of (y,a) too, so it does not begin above y: were the claim false, it would begin with y.
+  -- But from z it looks as (a,y) does, so that (z,y) would have the colour of (z,a), and it has not.
   least-first : {a b c : ℕ} → Circle a b c → seed (pair b c) .first ≤ seed (pair a b) .first → ⊥
   least-first {a} {b} {c} t le = unlike (u .ca .is) (not-so (u .bc)) (sym (subst (λ (x : ℕ). v .label (pair z x) ≡ v .label (pair z a)) one (k .to-first)))
     where

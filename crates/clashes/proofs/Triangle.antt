@@ -15,7 +15,7 @@ abbrev turn : Bool → Pair → Pair
 turn false p = p
 turn true p = op p
 
--- And any other clash puts another grave for one of the two, of which some kind tells the one that stays.
+-- Any other clash puts another grave in the place of one of the two: some kind lay in both of these and not in the grave that stays.
 data Slide (f : Finds) : Pair → Pair → Type 0 where
   same : {p : Pair} → Slide f p p
   left : {x y z : ℕ} → Parts f x y z → Slide f (pair x y) (pair z y)
