@@ -1,0 +1,4 @@
+pub mod Status
+pub mod Opening
+pub mod Change
+pub mod Theorems
