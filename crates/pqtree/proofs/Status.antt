@@ -1,6 +1,6 @@
 -- What a status says of counts, and how many branches have the kind.
-use mathlib.Core.Path.{_≡_, refl, sym, subst}
-use mathlib.Core.Bool.{Bool, true, false, not, true≢false, false≢true}
+use mathlib.Core.Path.{_≡_, refl, subst}
+use mathlib.Core.Bool.{Bool, true, false, true≢false, false≢true}
 use Prim.Native.Nat.{ℕ, zero, suc, _+_, _≤_, _<_}
 use native.Mathlib.Omega.{arith}
 use Rattle.finds.specs.Trees.{Tree, grave, any, row, Trees, none, more, Mixed, no-more, put, Put, first, after, len, Good, Goods}
