@@ -37,6 +37,10 @@ pub goods-plus : (x y : Trees) → Goods x → Goods y → Goods (x +++ y)
 goods-plus none y a c = c
 goods-plus (more t x) y a c = (a .0, goods-plus x y (a .1) c)
 
+pub goods-right : (x y : Trees) → Goods (x +++ y) → Goods y
+goods-right none y a = a
+goods-right (more t x) y a = goods-right x y (a .1)
+
 -- ---- turned round
 
 pub revs-plus : (x y : Trees) → revs (x +++ y) ≡ revs y +++ revs x

@@ -2,14 +2,14 @@
 use mathlib.Core.Path.{_≡_, refl, sym, ap, subst, _∙_}
 use mathlib.Core.Logic.{_⊎_, inl, inr}
 use mathlib.Core.Bool.{Bool, true, false, not, cond}
-use mathlib.Core.List.{List, [], _++_}
+use mathlib.Core.List.{List, [], _++_, reverse, reverse-reverse}
 use Prim.Native.Nat.{ℕ, _≤_}
 use native.Mathlib.Omega.{arith}
 use Rattle.finds.specs.Trees.{Tree, grave, any, row, Trees, none, more, Allows, mixed, straight, turned, Mixed, In-row, nil, next, len, Good, Goods}
 use Rattle.finds.specs.Branches.{_+++_, revs}
 use Rattle.finds.specs.Counts.{count, countT, countTs}
 use Rattle.finds.proofs.Branches.{Alls, plus-assoc, plus-none, mixed-refl, mixed-trans, mixed-plus, mixed-revs, mixed-alls, mixed-none, mixed-one, turned-is, is-turned}
-use Rattle.finds.proofs.Counts.{mixed-count, allows-count, in-row-count, in-plus, in-cut, in-one, one-in}
+use Rattle.finds.proofs.Counts.{mixed-count, allows-count, in-row-count, in-plus, in-cut, in-one, one-in, in-row-turn}
 use Rattle.pqtree.specs.Status.{Status, bare, part, full, status, far, same, keep, sel, all-are, sorted, few}
 use Rattle.pqtree.specs.Opening.{Opening, stuck, laid, _⊞_, group, if-part, open-up, open-all, open-back, open-parts}
 use Rattle.pqtree.proofs.Words.{Rise, rise-lacks, rise-skip, rise-stop, rise-first, rise-second}
@@ -66,6 +66,10 @@ pub record Anyhow (ts : Trees) (l : List ℕ) : Type 0 where
 pub any-anyhow : {ts : Trees} {l : List ℕ} → Allows (any ts) l → Anyhow ts l
 any-anyhow (mixed m r) = record { way = _; mix = m; run = r }
 
+pub anyhow-turn : {ts : Trees} {l : List ℕ} → Anyhow ts (reverse l) → Anyhow ts l
+anyhow-turn {l = l} a = record
+    { way = revs (a .way); mix = mixed-trans (a .mix) (mixed-revs (a .way)); run = subst (λ (x : List ℕ). In-row (revs (a .way)) x) (reverse-reverse l) (in-row-turn (a .run)) }
+
 pub group-in : (ts : Trees) (l : List ℕ) → In-row (group ts) l → Anyhow ts l
 group-in none l r = record { way = none; mix = mixed-refl none; run = r }
 group-in (more t none) l r = record { way = more t none; mix = mixed-refl (more t none); run = r }
@@ -75,6 +79,16 @@ pub in-group : (ts : Trees) {us : Trees} (l : List ℕ) → Mixed ts us → In-r
 in-group none l m r = subst (λ (x : Trees). In-row x l) (mixed-none m) r
 in-group (more t none) l m r = subst (λ (x : Trees). In-row x l) (mixed-one m) r
 in-group (more t (more u us)) l m r = in-one (mixed m r)
+
+pub group-goods : (ts : Trees) → Goods ts → Goods (group ts)
+group-goods none h = tt
+group-goods (more t none) h = h
+group-goods (more t (more u us)) h = ((omega arith, h), tt)
+
+pub group-count : (k : ℕ → Bool) (b : Bool) (ts : Trees) → countTs k b (group ts) ≡ countTs k b ts
+group-count k b none = refl
+group-count k b (more t none) = refl
+group-count k b (more t (more u us)) = omega arith
 
 module _ (k : ℕ → Bool) where
   -- ---- what openings of several branches are
