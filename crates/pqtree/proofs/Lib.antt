@@ -6,3 +6,5 @@ pub mod Fitting
 pub mod Rows
 pub mod Leading
 pub mod Middle
+pub mod Reading
+pub mod Change

@@ -149,24 +149,27 @@ module _ (k : ℕ → Bool) where
 
   -- ---- the change of the bound branches
 
+  -- A group has the kind if one of its branches has.
+  pub group-heavy : (fs ps : Trees) → 1 ≤ heavy k fs + heavy k ps → 1 ≤ heavy k (group fs +++ ps)
+  group-heavy fs ps n = go (heavy k (group fs +++ ps)) refl
+    where
+      go : (m : ℕ) → heavy k (group fs +++ ps) ≡ m → 1 ≤ m
+      go zero e =
+          absurd (let x = heavy-bare k (group fs +++ ps) e in let y = countTs-plus k true (group fs) ps in let z = group-count k true fs in
+            let c = bare-heavy k fs (omega arith) in let d = bare-heavy k ps (omega arith) in omega arith)
+      go (suc m) e = omega arith
+
   -- The middle is changed as a row is, of which two branches have the kind; or it is full and stays.
   middle-fit : (ts : Trees) → Goods ts → 2 ≤ heavy k ts → Fit k (middle (sel k part ts) (sel k full ts)) (cut-middle k (sel k part ts) (sel k full ts))
   middle-fit ts g n = go (sel k part ts) (sel-goods k part ts g) (sel-are k part ts) (lined-heavy k ts)
     where
-      fs : Trees
-      fs = sel k full ts
-      go : (ps : Trees) → Goods ps → Are k part ps → heavy k ts ≡ heavy k ps + heavy k fs → Fit k (middle ps fs) (cut-middle k ps fs)
+      go : (ps : Trees) → Goods ps → Are k part ps → heavy k ts ≡ heavy k ps + heavy k (sel k full ts) → Fit k (middle ps (sel k full ts)) (cut-middle k ps (sel k full ts))
       go none h a w = λ l. ((λ p. (p, stretch-lacks k false l (allows-count k false p ∙ sel-lacks k false ts))), λ p s. p)
-      go (more p ps) h a w = row-fit k (more p (group fs +++ ps)) (h .0, goods-plus (group fs) ps (group-goods fs (sel-goods k full ts g)) (h .1)) two
-        where
-          one-p : weigh (status k p) ≡ 1
-          one-p = rw (a .0)
-          rest : (m : ℕ) → heavy k (group fs +++ ps) ≡ m → 1 ≤ m
-          rest zero e = absurd (let x = heavy-bare k (group fs +++ ps) e in let y = countTs-plus k true (group fs) ps in let z = group-count k true fs in
-              let c = bare-heavy k fs (omega arith) in let d = bare-heavy k ps (omega arith) in omega (arith, one-p))
-          rest (suc m) e = omega arith
-          two : 2 ≤ heavy k (more p (group fs +++ ps))
-          two = let z = rest (heavy k (group fs +++ ps)) refl in omega (arith, one-p)
+      go (more p ps) h a w =
+          let fs = sel k full ts in
+          let o : weigh (status k p) ≡ 1 = rw (a .0) in
+          let z = group-heavy fs ps (omega arith) in
+          row-fit k (more p (group fs +++ ps)) (h .0, goods-plus (group fs) ps (group-goods fs (sel-goods k full ts g)) (h .1)) (omega arith)
 
   -- A branch that is alone needs no place around it.
   join-fit : (es : Trees) (t : Tree) (o : Outcome) → Fit k t (as-any (place o es none)) → Fit k t (join es o)
