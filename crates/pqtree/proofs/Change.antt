@@ -72,12 +72,12 @@ module _ (k : ℕ → Bool) where
 
 -- ---- the graves are kept: of every kind there are as many as before
 
-kept-counts : (k q : ℕ → Bool) (b : Bool) (t u : Tree) {o : Outcome} → Fit k t o → o ≡ made u → countT q b u ≡ countT q b t
-kept-counts k q b t u f e =
+pub fit-counts : (k q : ℕ → Bool) (b : Bool) (t u : Tree) {o : Outcome} → Fit k t o → o ≡ made u → countT q b u ≡ countT q b t
+fit-counts k q b t u f e =
     sym (allows-count q b (reads u)) ∙ allows-count q b (f (graves u) .0 (subst (λ (o : Outcome). Changed o (graves u)) (sym e) (reads u)) .0)
 
 pub change-counts : (k q : ℕ → Bool) (b : Bool) (t u : Tree) → Good t → 1 ≤ countT k true t → change k t ≡ made u → countT q b u ≡ countT q b t
-change-counts k q b t u g n e = kept-counts k q b t u (change-fit k t g n) e
+change-counts k q b t u g n e = fit-counts k q b t u (change-fit k t g n) e
 
 pub step-counts : (k q : ℕ → Bool) (b : Bool) (t u : Tree) → Good t → step k t ≡ made u → countT q b u ≡ countT q b t
-step-counts k q b t u g e = kept-counts k q b t u (step-fit k t g) e
+step-counts k q b t u g e = fit-counts k q b t u (step-fit k t g) e

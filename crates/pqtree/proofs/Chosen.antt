@@ -185,6 +185,7 @@ module _ (k : ℕ → Bool) where
       live : (b : Bool) (t : Tree) → Good t → 0 < countT k b t + countT k (not b) t
       live true t g = good-live k t g
       live false t g = let z = good-live k t g in omega arith
+
       go : (x : Bool) → same (status k t) (far b) ≡ x → cond x (sorted k b (more u us)) (all-are k (far (not b)) (more u us)) ≡ true →
           (countTs k b (revs (more u us)) ≡ 0) ⊎ (countT k (not b) t ≡ 0) → countTs k b (revs (more u us)) ≡ countTs k b (more u us) →
           (countTs k b (more t (more u us)) ≡ 0) ⊎ (countTs k (not b) (more t (more u us)) ≡ 0)

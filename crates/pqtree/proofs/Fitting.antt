@@ -64,11 +64,12 @@ picked torn x y l p = absurd p
 picked (made c) x y l (mixed m r) =
     let o = mixed-out (put-mid c x y) m in
     let a = put-around (o .2) in
-    record
-    { left = a .left
-    ; right = a .right
-    ; sides = subst (λ (z : Trees). Mixed (x +++ y) z) (a .out) (o .1)
-    ; run = subst (λ (z : Trees). In-row z l) (a .with-it) r }
+    record {
+      left = a .left;
+      right = a .right;
+      sides = subst (λ (z : Trees). Mixed (x +++ y) z) (a .out) (o .1);
+      run = subst (λ (z : Trees). In-row z l) (a .with-it) r;
+    }
 
 unpicked : (o : Outcome) (x y : Trees) (l : List ℕ) → Picked o x y l → Changed (as-any (place o x y)) l
 unpicked torn x y l q = q .run
@@ -85,11 +86,12 @@ module _ (k : ℕ → Bool) where
 
   -- What is done to the branches as they stand does for the row that may be turned.
   pub row-fits : (ts : Trees) (o : Opening) → Fit-row ts o → Fit (row ts) (as-row o)
-  row-fits ts o f l =
-      ( (λ p. ⊎-elim (λ r. let q = f l .0 r in (straight (q .0), q .1))
-              (λ r. let q = f (reverse l) .0 r in (ways-row (laid ts) l (inr (q .0)), subst (λ (x : List ℕ). Stretch k x) (reverse-reverse l) (stretch-turn k (reverse l) (q .1))))
-              (row-ways o l p))
-      , (λ p s. ways-row o l (⊎-elim (λ r. inl (f l .1 r s)) (λ r. inr (f (reverse l) .1 r (stretch-turn k l s))) (row-ways (laid ts) l p))) )
+  row-fits ts o f l = (
+    (λ p. ⊎-elim (λ r. let q = f l .0 r in (straight (q .0), q .1))
+        (λ r. let q = f (reverse l) .0 r in (ways-row (laid ts) l (inr (q .0)), subst (λ (x : List ℕ). Stretch k x) (reverse-reverse l) (stretch-turn k (reverse l) (q .1))))
+        (row-ways o l p)),
+    (λ p s. ways-row o l (⊎-elim (λ r. inl (f l .1 r s)) (λ r. inr (f (reverse l) .1 r (stretch-turn k l s))) (row-ways (laid ts) l p))),
+  )
 
   -- If c alone has the kind, it is enough to change c.
   pub place-fit : (c : Tree) (x y : Trees) (o : Outcome) → Fit c o → countTs k true x ≡ 0 → countTs k true y ≡ 0 → Fit-row (x +++ more c y) (place o x y)
@@ -97,25 +99,29 @@ module _ (k : ℕ → Bool) where
     where
       inner : (h : Held c x y l) → Stretch k l → Stretch k (h .mid)
       inner h s = stretch-first k (h .mid) (h .aft) (stretch-second k (h .fore) (h .mid ++ h .aft) (subst (λ (z : List ℕ). Stretch k z) (h .is) s))
+
       to : (o : Outcome) → Fit c o → Opened (place o x y) l → In-row (x +++ more c y) l × Stretch k l
       to torn f p = absurd p
       to (made u) f r =
           let h = held u x y l r in
           let p = f (h .mid) .0 (h .here) in
-          rw (h .is)
-          ( in-plus (h .before) (next (p .0) (h .behind-it))
-          , stretch-skip k (h .fore) (h .mid ++ h .aft) (in-row-count k true (h .before) ∙ cx) (stretch-stop k (h .mid) (h .aft) (in-row-count k true (h .behind-it) ∙ cy) (p .1)) )
+          rw (h .is) (
+            in-plus (h .before) (next (p .0) (h .behind-it)),
+            stretch-skip k (h .fore) (h .mid ++ h .aft) (in-row-count k true (h .before) ∙ cx) (stretch-stop k (h .mid) (h .aft) (in-row-count k true (h .behind-it) ∙ cy) (p .1)),
+          )
+
       from : (o : Outcome) (h : Held c x y l) → Changed o (h .mid) → Opened (place o x y) l
       from torn h q = absurd q
       from (made u) h q = rw (h .is) (in-plus (h .before) (next q (h .behind-it)))
 
   -- The same for branches in any order.
   pub any-fits : (c : Tree) (x y : Trees) (o : Outcome) → Fit c o → countTs k true x ≡ 0 → countTs k true y ≡ 0 → Fit (any (x +++ more c y)) (as-any (place o x y))
-  any-fits c x y o f cx cy l =
-      ( (λ p. let q = picked o x y l p in let h = at o q .0 (q .run) in
-          (unpicked (made c) x y l (record { left = q .left; right = q .right; sides = q .sides; run = h .0 }), h .1))
-      , (λ p s. let q = picked (made c) x y l p in
-          unpicked o x y l (record { left = q .left; right = q .right; sides = q .sides; run = at (made c) q .1 (q .run) s })) )
+  any-fits c x y o f cx cy l = (
+    (λ p. let q = picked o x y l p in let h = at o q .0 (q .run) in
+        (unpicked (made c) x y l (record { left = q .left; right = q .right; sides = q .sides; run = h .0 }), h .1)),
+    (λ p s. let q = picked (made c) x y l p in
+        unpicked o x y l (record { left = q .left; right = q .right; sides = q .sides; run = at (made c) q .1 (q .run) s })),
+  )
     where
       at : (o' : Outcome) (q : Picked o' x y l) →
           (Opened (place o (q .left) (q .right)) l → In-row (q .left +++ more c (q .right)) l × Stretch k l)

@@ -33,24 +33,27 @@ module _ (k : ℕ → Bool) where
       push : (o : Outcome) (x y : Trees) → laid (more t none) ⊞ place o x y ≡ place o (more t x) y
       push torn x y = refl
       push (made u) x y = refl
+
       front : same (status k t) bare ≡ false → weigh (status k t) ≡ 1 → inside k (more t us) ≡ place (change k t) none us → Leading (more t us)
       front d w so = record
           { fore = none; head = t; tail = us; is = refl; lacks = refl; has = has-kind k t d; weight = omega arith; bares = rw d; parts = refl; fulls = refl; so = so }
+
       go : (s : Status) → status k t ≡ s → 1 ≤ weigh s + heavy k us → (1 ≤ heavy k us → Leading us) → Leading (more t us)
       go bare e n ih =
           let r = ih (omega arith) in
-          record
-          { fore = more t (r .fore)
-          ; head = r .head
-          ; tail = r .tail
-          ; is = ap (more t) (r .is)
-          ; lacks = (let z = status-says k t e in omega arith)
-          ; has = r .has
-          ; weight = rw e (omega arith)
-          ; bares = rw e (ap (more t) (r .bares))
-          ; parts = rw e (r .parts)
-          ; fulls = rw e (r .fulls)
-          ; so = rw e (ap (λ (z : Opening). laid (more t none) ⊞ z) (r .so) ∙ push (change k (r .head)) (r .fore) (r .tail)) }
+          record {
+            fore = more t (r .fore);
+            head = r .head;
+            tail = r .tail;
+            is = ap (more t) (r .is);
+            lacks = (let z = status-says k t e in omega arith);
+            has = r .has;
+            weight = rw e (omega arith);
+            bares = rw e (ap (more t) (r .bares));
+            parts = rw e (r .parts);
+            fulls = rw e (r .fulls);
+            so = rw e (ap (λ (z : Opening). laid (more t none) ⊞ z) (r .so) ∙ push (change k (r .head)) (r .fore) (r .tail));
+          }
       go part e n ih = front (rw e) (rw e) (rw e)
       go full e n ih = front (rw e) (rw e) (rw e)
 

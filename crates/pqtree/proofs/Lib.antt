@@ -8,3 +8,7 @@ pub mod Leading
 pub mod Middle
 pub mod Reading
 pub mod Change
+pub mod Keeps
+pub mod Stretch
+pub mod Exact
+pub mod Size

@@ -35,10 +35,11 @@ middle-in (more p ps) fs l q = ⊎-elim go (λ r. anyhow-turn (go r)) (row-ways 
     go (next h r) =
         let c = in-cut (group fs) ps r in
         let g = group-in fs (c .fore) (c .here) in
-        record
-        { way = more p (g .way +++ ps)
-        ; mix = put (mixed-trans (mixed-swap ps fs) (mixed-plus (g .mix) (mixed-refl ps))) first
-        ; run = next h (subst (λ (z : List ℕ). In-row (g .way +++ ps) z) (sym (c .is)) (in-plus (g .run) (c .there))) }
+        record {
+          way = more p (g .way +++ ps);
+          mix = put (mixed-trans (mixed-swap ps fs) (mixed-plus (g .mix) (mixed-refl ps))) first;
+          run = next h (subst (λ (z : List ℕ). In-row (g .way +++ ps) z) (sym (c .is)) (in-plus (g .run) (c .there)));
+        }
 
 -- ---- the forms in which the branches of the middle can stand
 
@@ -70,8 +71,10 @@ mid-part p ps fs ps' fs' w x y m n e h r s = go ps' m e s
       where
         run : In-row (more p (group fs +++ more q none)) (w ++ (x ++ y))
         run = next h (in-plus (in-group fs x n r) s)
+
         as-they-are : ps ≡ more p (more q none) → Allows (middle ps fs) (w ++ (x ++ y))
         as-they-are z = rw z (straight run)
+
         swapped : ps ≡ more q (more p none) → Allows (middle ps fs) (w ++ (x ++ y))
         swapped z =
             rw z
@@ -96,8 +99,8 @@ module _ (k : ℕ → Bool) where
       let a = middle-in ps fs (h .mid) (h .here) in
       let sides : Mixed es (q .left +++ q .right) = subst (λ (z : Trees). Mixed z (q .left +++ q .right)) (plus-none es) (q .sides) in
       let back : Mixed ((q .left +++ q .right) +++ a .way) (q .left +++ (a .way +++ q .right)) =
-            subst (λ (z : Trees). Mixed z (q .left +++ (a .way +++ q .right))) (sym (plus-assoc (q .left) (q .right) (a .way)))
-            (mixed-plus (mixed-refl (q .left)) (mixed-swap (q .right) (a .way))) in
+      subst (λ (z : Trees). Mixed z (q .left +++ (a .way +++ q .right))) (sym (plus-assoc (q .left) (q .right) (a .way)))
+      (mixed-plus (mixed-refl (q .left)) (mixed-swap (q .right) (a .way))) in
       rw (h .is) (mixed (mixed-trans (lined-mixed k true ts) (mixed-trans (mixed-plus sides (a .mix)) back)) (in-plus (h .before) (in-plus (a .run) (h .behind-it))))
 
   -- ---- and the other way, if the kind is one stretch
@@ -109,8 +112,10 @@ module _ (k : ℕ → Bool) where
     where
       parts : (z : Status) → status k (d .head) ≡ z → Mixed (sel k part ts) (keep (same z part) (d .head) (sel k part (d .tail)))
       parts z q = subst (λ (v : Trees). Mixed (sel k part ts) v) (d .parts ∙ ap (λ (z : Status). keep (same z part) (d .head) (sel k part (d .tail))) q) (mixed-sel k part m)
+
       fulls : (z : Status) → status k (d .head) ≡ z → Mixed (sel k full ts) (keep (same z full) (d .head) (sel k full (d .tail)))
       fulls z q = subst (λ (v : Trees). Mixed (sel k full ts) v) (d .fulls ∙ ap (λ (z : Status). keep (same z full) (d .head) (sel k full (d .tail))) q) (mixed-sel k full m)
+
       go : (z : Status) → status k (d .head) ≡ z → Allows (middle (sel k part ts) (sel k full ts)) (w ++ (x ++ y))
       go bare q = absurd (let z = status-says k (d .head) q in omega (arith, d .has))
       go full q =
@@ -131,16 +136,21 @@ module _ (k : ℕ → Bool) where
     where
       h : Held (d .head) (d .fore) (d .tail) l
       h = held (d .head) (d .fore) (d .tail) l (subst (λ (z : Trees). In-row z l) (d .is) (a .run))
+
       s' : Stretch k (h .mid ++ h .aft)
       s' = stretch-second k (h .fore) (h .mid ++ h .aft) (subst (λ (z : List ℕ). Stretch k z) (h .is) s)
+
       goods : Goods (d .tail)
       goods = goods-right (d .fore) (more (d .head) (d .tail)) (subst Goods (d .is) (mixed-goods (a .mix) g)) .1
+
       bares : Mixed (sel k bare ts +++ none) (d .fore +++ sel k bare (d .tail))
       bares = rw plus-none (subst (λ (z : Trees). Mixed (sel k bare ts) z) (d .bares) (mixed-sel k bare (a .mix)))
+
       falls : ((count k true (h .mid) ≡ 0) × Stretch k (h .aft)) ⊎ ((Stretch k (h .mid) × (count k true (h .aft) ≡ 0)) ⊎ (Rise k true (h .mid) × Rise k false (h .aft))) → Rise k false (h .aft)
       falls (inl z) = absurd (let y = allows-count k true (h .here) in omega (arith, z .0, d .has))
       falls (inr (inl z)) = absurd (let y = bare-heavy k (d .tail) (sym (in-row-count k true (h .behind-it)) ∙ z .1) in let u = mixed-heavy k (a .mix) in omega (arith, d .weight))
       falls (inr (inr z)) = z .1
+
       regroup : (l a m y c z f r : List ℕ) → l ≡ a ++ (m ++ y) → y ≡ c ++ z → z ≡ f ++ r → l ≡ a ++ ((m ++ (c ++ f)) ++ r)
       regroup l a m y c z f r p q s = p ∙ rw (q, s) (simp append-assoc)
 
@@ -156,7 +166,7 @@ module _ (k : ℕ → Bool) where
       go : (m : ℕ) → heavy k (group fs +++ ps) ≡ m → 1 ≤ m
       go zero e =
           absurd (let x = heavy-bare k (group fs +++ ps) e in let y = countTs-plus k true (group fs) ps in let z = group-count k true fs in
-            let c = bare-heavy k fs (omega arith) in let d = bare-heavy k ps (omega arith) in omega arith)
+          let c = bare-heavy k fs (omega arith) in let d = bare-heavy k ps (omega arith) in omega arith)
       go (suc m) e = omega arith
 
   -- The middle is changed as a row is, of which two branches have the kind; or it is full and stays.

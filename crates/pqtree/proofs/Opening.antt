@@ -176,9 +176,10 @@ module _ (k : ℕ → Bool) where
       let cx : count k b (h .fore) ≡ 0 = in-row-count k b (x .run) ∙ mixed-count k b (x .mix) ∙ sel-lacks k b ts in
       let cz : count k (not b) (i .rest) ≡ 0 = in-row-count k (not b) (z .run) ∙ mixed-count k (not b) (z .mix) ∙ sel-lacks k (not b) ts in
       let eq : l ≡ h .fore ++ (i .fore ++ i .rest) = h .is ∙ ap (λ (w : List ℕ). h .fore ++ w) (i .is) in
-      rw eq
-      ( mixed m (in-plus (x .run) (in-plus (open-all-in b ps (i .fore) p o) (z .run)))
-      , rise-skip k b (h .fore) (i .fore ++ i .rest) cx (rise-stop k b (i .fore) (i .rest) cz (open-all-rise b ps (i .fore) p (few-sorted k b ps e) o)) )
+      rw eq (
+        mixed m (in-plus (x .run) (in-plus (open-all-in b ps (i .fore) p o) (z .run))),
+        rise-skip k b (h .fore) (i .fore ++ i .rest) cx (rise-stop k b (i .fore) (i .rest) cz (open-all-rise b ps (i .fore) p (few-sorted k b ps e) o)),
+      )
 
   -- A row that rises has the branches in sequence, so it is cut in three.
   any-from : (b : Bool) (ts : Trees) (l : List ℕ) → Goods ts → Alls Lays ts → Anyhow ts l → Rise k b l →
@@ -193,13 +194,14 @@ module _ (k : ℕ → Bool) where
       let s' : Rise k b (d .fore) = rise-first k b (d .fore) (d .rest) (rise-second k b (c .fore) (d .fore ++ d .rest) (rw eq at s)) in
       let r : In-row (sel k part ts) (d .fore) = subst (λ (x : Trees). In-row x (d .fore)) (sym q) (d .here) in
       let p : Opened (open-parts k b ts) (d .fore) =
-            subst (λ (x : Opening). Opened x (d .fore)) (sym (open-parts-is b ts)) (rise-open-all b (sel k part ts) (d .fore) (sel-alls k Lays part ts a) r s') in
-      ( ap few q ∙ e .1
-      , rw eq
-        (glue (laid (group (sel k (far b) ts))) (open-parts k b ts ⊞ laid (group (sel k (far (not b)) ts))) (c .fore) (d .fore ++ d .rest)
-        (in-group (sel k (far b) ts) (c .fore) (mixed-sel k (far b) (w .mix)) (c .here))
-        (glue (open-parts k b ts) (laid (group (sel k (far (not b)) ts))) (d .fore) (d .rest) p
-        (in-group (sel k (far (not b)) ts) (d .rest) (mixed-sel k (far (not b)) (w .mix)) (d .there)))) )
+      subst (λ (x : Opening). Opened x (d .fore)) (sym (open-parts-is b ts)) (rise-open-all b (sel k part ts) (d .fore) (sel-alls k Lays part ts a) r s') in (
+        ap few q ∙ e .1,
+        rw eq
+            (glue (laid (group (sel k (far b) ts))) (open-parts k b ts ⊞ laid (group (sel k (far (not b)) ts))) (c .fore) (d .fore ++ d .rest)
+            (in-group (sel k (far b) ts) (c .fore) (mixed-sel k (far b) (w .mix)) (c .here))
+            (glue (open-parts k b ts) (laid (group (sel k (far (not b)) ts))) (d .fore) (d .rest) p
+            (in-group (sel k (far (not b)) ts) (d .rest) (mixed-sel k (far (not b)) (w .mix)) (d .there)))),
+      )
 
   -- ---- branches in a row
 
@@ -215,6 +217,7 @@ module _ (k : ℕ → Bool) where
           let p = mixed-alls Lays (mixed-revs ts) a in
           (turned (is-turned ts) (open-all-in b (revs ts) l p o), open-all-rise b (revs ts) l p e o)
       back false e r = absurd r
+
       go : (x : Bool) → sorted k b ts ≡ x → Opened (cond x (open-all k b ts) (cond (sorted k b (revs ts)) (open-back k b ts) stuck)) l → Allows (row ts) l × Rise k b l
       go true e r = (straight (open-all-in b ts l a r), open-all-rise b ts l a e r)
       go false e r = back (sorted k b (revs ts)) refl r
@@ -227,8 +230,10 @@ module _ (k : ℕ → Bool) where
     where
       r : In-row (revs ts) l
       r = subst (λ (x : Trees). In-row x l) (turned-is u) q
+
       f : sorted k b (revs ts) ≡ true
       f = in-sorted k b (revs ts) l (mixed-goods (mixed-revs ts) g) r s
+
       go : (x : Bool) → sorted k b ts ≡ x → Opened (cond x (open-all k b ts) (cond (sorted k b (revs ts)) (open-back k b ts) stuck)) l
       go true e = absurd (w (sorted-both k b ts n g e f))
       go false e = rw f (subst (λ (x : Opening). Opened x l) (sym (open-back-is b ts)) (rise-open-all b (revs ts) l (mixed-alls Lays (mixed-revs ts) a) r s))
@@ -257,8 +262,10 @@ module _ (k : ℕ → Bool) where
         to : (x : Bool) → few (sel k part ts) ≡ x → Alls Lays ts → Opened (cond x (any-core b ts) stuck) l → Allows (any ts) l × Rise k b l
         to true e a r = any-to b ts l a e r
         to false e a r = absurd r
+
         from : Alls Lays ts → Allows (any ts) l → Rise k b l → Opened (cond (few (sel k part ts)) (any-core b ts) stuck) l
         from a p s = let q = any-from b ts l (h .1) a (any-anyhow p) s in rw (q .0) (q .1)
+
         go : (x : Status) → status k (any ts) ≡ x → Alls Lays ts → Opens b (any ts) (if-part x (laid (more (any ts) none)) (cond (few (sel k part ts)) (any-core b ts) stuck)) l
         go bare e a = whole b true (any ts) l (status-says k (any ts) e)
         go full e a = whole b false (any ts) l (status-says k (any ts) e .1)

@@ -40,6 +40,7 @@ module _ (k : ℕ → Bool) where
           let p = lays k t (g .0) true (h .fore) .0 (h .here) in
           let q = open-row-to false ts (h .rest) (g .1) (h .there) in
           rw (h .is) (next (p .0) (q .0), stretch-join k (h .fore) (h .rest) (p .1) (q .1))
+
       go : (s : Status) → status k t ≡ s → Opened (if-bare s (laid (more t none) ⊞ row-cut k ts) (open-up k true t ⊞ open-row k false ts)) l →
           ((c : List ℕ) → Opened (row-cut k ts) c → In-row ts c × Stretch k c) → In-row (more t ts) l × Stretch k l
       go bare e r ih =
@@ -60,6 +61,7 @@ module _ (k : ℕ → Bool) where
       cut has n (inl c) = absurd (let z = allows-count k true h in omega (arith, c .0))
       cut has n (inr (inl c)) = absurd (let z = bare-heavy k ts (sym (in-row-count k true r) ∙ c .1) in omega arith)
       cut has n (inr (inr c)) = glue (open-up k true t) (open-row k false ts) x y (lays k t (g .0) true x .1 h (c .0)) (open-row-from false ts y (g .1) r (c .1))
+
       go : (z : Status) → status k t ≡ z → 2 ≤ weigh z + heavy k ts → (2 ≤ heavy k ts → Opened (row-cut k ts) y) →
           Opened (if-bare z (laid (more t none) ⊞ row-cut k ts) (open-up k true t ⊞ open-row k false ts)) (x ++ y)
       go bare e n ih = glue (laid (more t none)) (row-cut k ts) x y (in-one h) (ih (omega arith))

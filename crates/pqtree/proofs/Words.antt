@@ -58,20 +58,22 @@ module _ (k : ℕ → Bool) where
   rise-lacks false false l h = rise-free false l h
 
   pub rise-skip : (b : Bool) (a c : List ℕ) → count k b a ≡ 0 → Rise k b c → Rise k b (a ++ c)
-  rise-skip b a c h r = record
-      { fore = a ++ r .fore
-      ; rest = r .rest
-      ; is = ap (λ (x : List ℕ). a ++ x) (r .is) ∙ sym (append-assoc a (r .fore) (r .rest))
-      ; lacks = (let z = count-append k b a (r .fore) in omega arith)
-      ; keeps = r .keeps }
+  rise-skip b a c h r = record {
+    fore = a ++ r .fore;
+    rest = r .rest;
+    is = ap (λ (x : List ℕ). a ++ x) (r .is) ∙ sym (append-assoc a (r .fore) (r .rest));
+    lacks = (let z = count-append k b a (r .fore) in omega arith);
+    keeps = r .keeps;
+  }
 
   pub rise-stop : (b : Bool) (a c : List ℕ) → count k (not b) c ≡ 0 → Rise k b a → Rise k b (a ++ c)
-  rise-stop b a c h r = record
-      { fore = r .fore
-      ; rest = r .rest ++ c
-      ; is = ap (λ (x : List ℕ). x ++ c) (r .is) ∙ append-assoc (r .fore) (r .rest) c
-      ; lacks = r .lacks
-      ; keeps = (let z = count-append k (not b) (r .rest) c in omega arith) }
+  rise-stop b a c h r = record {
+    fore = r .fore;
+    rest = r .rest ++ c;
+    is = ap (λ (x : List ℕ). x ++ c) (r .is) ∙ append-assoc (r .fore) (r .rest) c;
+    lacks = r .lacks;
+    keeps = (let z = count-append k (not b) (r .rest) c in omega arith);
+  }
 
   -- Wherever a row that rises is cut, the turn lies in one of the parts.
   pub rise-cut : (b : Bool) (a c : List ℕ) → Rise k b (a ++ c) → ((count k b a ≡ 0) × Rise k b c) ⊎ (Rise k b a × (count k (not b) c ≡ 0))
@@ -89,12 +91,13 @@ module _ (k : ℕ → Bool) where
   rise-second b a c r = ⊎-elim (λ h. h .1) (λ h. rise-all b c (h .1)) (rise-cut b a c r)
 
   pub rise-turn : (b : Bool) (l : List ℕ) → Rise k b l → Rise k (not b) (reverse l)
-  rise-turn b l r = record
-      { fore = reverse (r .rest)
-      ; rest = reverse (r .fore)
-      ; is = ap reverse (r .is) ∙ reverse-append (r .fore) (r .rest)
-      ; lacks = count-reverse k (not b) (r .rest) ∙ r .keeps
-      ; keeps = count-reverse k (not (not b)) (r .fore) ∙ twice b (r .lacks) }
+  rise-turn b l r = record {
+    fore = reverse (r .rest);
+    rest = reverse (r .fore);
+    is = ap reverse (r .is) ∙ reverse-append (r .fore) (r .rest);
+    lacks = count-reverse k (not b) (r .rest) ∙ r .keeps;
+    keeps = count-reverse k (not (not b)) (r .fore) ∙ twice b (r .lacks);
+  }
     where
       twice : (b : Bool) → count k b (r .fore) ≡ 0 → count k (not (not b)) (r .fore) ≡ 0
       twice true h = h
@@ -118,29 +121,32 @@ module _ (k : ℕ → Bool) where
   stretch-lacks b l h = stretch-fall l (rise-lacks false b l h)
 
   pub stretch-skip : (a c : List ℕ) → count k true a ≡ 0 → Stretch k c → Stretch k (a ++ c)
-  stretch-skip a c h s = record
-      { fore = a ++ s .fore
-      ; rest = s .rest
-      ; is = ap (λ (x : List ℕ). a ++ x) (s .is) ∙ sym (append-assoc a (s .fore) (s .rest))
-      ; lacks = (let z = count-append k true a (s .fore) in omega arith)
-      ; falls = s .falls }
+  stretch-skip a c h s = record {
+    fore = a ++ s .fore;
+    rest = s .rest;
+    is = ap (λ (x : List ℕ). a ++ x) (s .is) ∙ sym (append-assoc a (s .fore) (s .rest));
+    lacks = (let z = count-append k true a (s .fore) in omega arith);
+    falls = s .falls;
+  }
 
   pub stretch-stop : (a c : List ℕ) → count k true c ≡ 0 → Stretch k a → Stretch k (a ++ c)
-  stretch-stop a c h s = record
-      { fore = s .fore
-      ; rest = s .rest ++ c
-      ; is = ap (λ (x : List ℕ). x ++ c) (s .is) ∙ append-assoc (s .fore) (s .rest) c
-      ; lacks = s .lacks
-      ; falls = rise-stop false (s .rest) c h (s .falls) }
+  stretch-stop a c h s = record {
+    fore = s .fore;
+    rest = s .rest ++ c;
+    is = ap (λ (x : List ℕ). x ++ c) (s .is) ∙ append-assoc (s .fore) (s .rest) c;
+    lacks = s .lacks;
+    falls = rise-stop false (s .rest) c h (s .falls);
+  }
 
   -- What rises to the kind, and then what falls from it.
   pub stretch-join : (a c : List ℕ) → Rise k true a → Rise k false c → Stretch k (a ++ c)
-  stretch-join a c r s = record
-      { fore = r .fore
-      ; rest = r .rest ++ c
-      ; is = ap (λ (x : List ℕ). x ++ c) (r .is) ∙ append-assoc (r .fore) (r .rest) c
-      ; lacks = r .lacks
-      ; falls = rise-skip false (r .rest) c (r .keeps) s }
+  stretch-join a c r s = record {
+    fore = r .fore;
+    rest = r .rest ++ c;
+    is = ap (λ (x : List ℕ). x ++ c) (r .is) ∙ append-assoc (r .fore) (r .rest) c;
+    lacks = r .lacks;
+    falls = rise-skip false (r .rest) c (r .keeps) s;
+  }
 
   -- Wherever such a row is cut, the stretch lies in one of the parts, or the first rises to it and the second falls.
   pub stretch-cut : (a c : List ℕ) → Stretch k (a ++ c) →

@@ -2,3 +2,4 @@ pub mod Status
 pub mod Opening
 pub mod Change
 pub mod Theorems
+pub mod Size
