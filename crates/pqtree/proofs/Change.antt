@@ -11,7 +11,9 @@ use Rattle.finds.proofs.Counts.{allows-count}
 use Rattle.pqtree.specs.Status.{heavy}
 use Rattle.pqtree.specs.Opening.{Opening}
 use Rattle.pqtree.specs.Change.{Outcome, made, as-row, as-any, place, row-cut, any-cut, if-one, change, inside, if-two, step}
+use Rattle.pqtree.specs.Size.{size}
 use Rattle.pqtree.proofs.Words.{stretch-lacks, stretch-few}
+use Rattle.pqtree.proofs.Size.{size-count}
 use Rattle.pqtree.proofs.Status.{heavy-bare}
 use Rattle.pqtree.proofs.Fitting.{Changed, Fit, row-fits, place-fit, any-fits}
 use Rattle.pqtree.proofs.Rows.{row-fit}
@@ -81,3 +83,7 @@ change-counts k q b t u g n e = fit-counts k q b t u (change-fit k t g n) e
 
 pub step-counts : (k q : ℕ → Bool) (b : Bool) (t u : Tree) → Good t → step k t ≡ made u → countT q b u ≡ countT q b t
 step-counts k q b t u g e = fit-counts k q b t u (step-fit k t g) e
+
+pub step-size : (k : ℕ → Bool) (t u : Tree) → Good t → step k t ≡ made u → size u ≡ size t
+step-size k t u g e =
+    let a = size-count k t in let b = size-count k u in let c = step-counts k k true t u g e in let d = step-counts k k false t u g e in omega arith

@@ -7,11 +7,11 @@ use Prim.Native.Nat.{ℕ, _+_, _≤_, _<_}
 use native.Mathlib.Omega.{arith}
 use Rattle.finds.specs.Trees.{Tree, Trees, none, more, Mixed, no-more, put, Put, first, after, In-row, next, len, Good, Goods}
 use Rattle.finds.specs.Branches.{_+++_, revs}
-use Rattle.finds.specs.Counts.{count, countT, countTs}
+use Rattle.finds.specs.Counts.{countT, countTs}
 use Rattle.finds.proofs.Branches.{Alls, put-under, put-mid, mixed-refl, mixed-trans, mixed-sym, mixed-revs, mixed-none, mixed-one}
 use Rattle.finds.proofs.Counts.{countTs-plus, mixed-count, allows-count, in-row-count}
 use Rattle.pqtree.specs.Status.{Status, bare, part, full, status, far, same, keep, sel, all-are, sorted, few, heavy}
-use Rattle.pqtree.proofs.Words.{Rise, rise-cut, rise-second}
+use Rattle.pqtree.proofs.Words.{Rise, Rise-cut, rise-cut, rise-second}
 use Rattle.pqtree.proofs.Status.{goods-each, each-goods, good-live, same-refl, same-is, far-lacks, lacks-far, bare-heavy, heavy-plus, mixed-heavy}
 
 -- ---- at most one branch
@@ -69,14 +69,6 @@ module _ (k : ℕ → Bool) where
   pub mixed-sel : (s : Status) {ts us : Trees} → Mixed ts us → Mixed (sel k s ts) (sel k s us)
   mixed-sel s no-more = no-more
   mixed-sel s (put {t = t} m p) = mixed-trans (keep-mixed (same (status k t) s) t (mixed-sel s m)) (put-sel s p)
-
-  pub sel-plus : (s : Status) (x y : Trees) → sel k s (x +++ y) ≡ sel k s x +++ sel k s y
-  sel-plus s none y = refl
-  sel-plus s (more t x) y = go (same (status k t) s) (sel-plus s x y)
-    where
-      go : (q : Bool) → sel k s (x +++ y) ≡ sel k s x +++ sel k s y → keep q t (sel k s (x +++ y)) ≡ keep q t (sel k s x) +++ sel k s y
-      go true ih = ap (more t) ih
-      go false ih = ih
 
   pub sel-alls : (P : Tree → Type 0) (s : Status) (ts : Trees) → Alls P ts → Alls P (sel k s ts)
   sel-alls P s none a = a
@@ -201,7 +193,7 @@ module _ (k : ℕ → Bool) where
   in-sorted b (more t ts) l g (next {k = x} {l = y} h r) s =
       go (same (status k t) (far b)) refl (in-sorted b ts y (g .1) r (rise-second k b x y s)) (rise-cut k b x y s)
     where
-      go : (q : Bool) → same (status k t) (far b) ≡ q → sorted k b ts ≡ true → ((count k b x ≡ 0) × Rise k b y) ⊎ (Rise k b x × (count k (not b) y ≡ 0)) →
+      go : (q : Bool) → same (status k t) (far b) ≡ q → sorted k b ts ≡ true → Rise-cut k b x y →
           cond q (sorted k b ts) (all-are k (far (not b)) ts) ≡ true
       go true e ih c = ih
       go false e ih (inl c) = absurd (true≢false (sym (same-refl (far b)) ∙ ap (λ (z : Status). same z (far b)) (sym (lacks-far k b t (g .0) (sym (allows-count k b h) ∙ c .0))) ∙ e))

@@ -207,7 +207,10 @@ module _ (k : ℕ → Bool) where
 
       go : (ps : Trees) → Goods ps → Are k part ps → heavy k ts ≡ heavy k ps + heavy k fs → Good-made (cut-middle k ps fs)
       go none a q w = ((let z = heavy-len k fs in omega arith), sel-goods k full ts h)
-      go (more p ps) a q w = rw (q .0) (as-row-good (pieces (status k p) + len us) (open-up k true p ⊞ open-row k false us) long (cut-keeps p us (a .0) (goods-plus (group fs) ps (group-goods fs (sel-goods k full ts h)) (a .1))))
+      go (more p ps) a q w =
+          rw (q .0)
+          (as-row-good (pieces (status k p) + len us) (open-up k true p ⊞ open-row k false us) long
+          (cut-keeps p us (a .0) (goods-plus (group fs) ps (group-goods fs (sel-goods k full ts h)) (a .1))))
         where
           us : Trees
           us = group fs +++ ps

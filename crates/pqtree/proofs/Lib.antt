@@ -1,4 +1,5 @@
 pub mod Words
+pub mod Size
 pub mod Status
 pub mod Chosen
 pub mod Opening
@@ -8,7 +9,7 @@ pub mod Leading
 pub mod Middle
 pub mod Reading
 pub mod Change
+pub mod Computed
 pub mod Keeps
 pub mod Stretch
 pub mod Exact
-pub mod Size

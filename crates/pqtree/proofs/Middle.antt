@@ -1,19 +1,18 @@
 -- Branches in any order, of which two or more have the kind: those that have it stand together, bound into a middle.
 use mathlib.Core.Path.{_≡_, refl, sym, ap, subst, _∙_}
-use mathlib.Core.Logic.{_⊎_, inl, inr, ⊎-elim}
+use mathlib.Core.Logic.{inl, inr, ⊎-elim}
 use mathlib.Core.Bool.{Bool, true, false, false≢true}
 use mathlib.Core.List.{List, _++_, append-assoc, append-nil}
 use Prim.Native.Nat.{ℕ, zero, suc, _+_, _≤_}
 use native.Mathlib.Omega.{arith}
 use Rattle.finds.specs.Trees.{Tree, any, row, Trees, none, more, Allows, mixed, straight, turned, Mixed, put, first, In-row, nil, next, Goods}
 use Rattle.finds.specs.Branches.{_+++_, revs}
-use Rattle.finds.specs.Counts.{count}
 use Rattle.finds.proofs.Branches.{plus-assoc, plus-none, revs-plus, mixed-refl, mixed-trans, mixed-sym, mixed-plus, mixed-swap, mixed-mid, mixed-one, mixed-two, is-turned, goods-plus, goods-right}
 use Rattle.finds.proofs.Counts.{countTs-plus, allows-count, in-row-count, in-plus, in-cut, in-one, one-in}
 use Rattle.pqtree.specs.Status.{Status, bare, part, full, status, same, keep, sel, few, weigh, heavy}
 use Rattle.pqtree.specs.Opening.{laid, group}
 use Rattle.pqtree.specs.Change.{Outcome, torn, made, as-any, place, cut-middle, join, any-cut}
-use Rattle.pqtree.proofs.Words.{Rise, Stretch, stretch-lacks, stretch-cut, stretch-second}
+use Rattle.pqtree.proofs.Words.{Rise, Stretch, Stretch-cut, stretch-lacks, stretch-cut, stretch-second}
 use Rattle.pqtree.proofs.Status.{mixed-goods, status-says, heavy-bare, bare-heavy, mixed-heavy}
 use Rattle.pqtree.proofs.Chosen.{mixed-few, Are, mixed-sel, sel-goods, sel-are, sel-lacks, lined-mixed, lined-heavy, sorted-lined, in-sorted}
 use Rattle.pqtree.proofs.Opening.{Anyhow, any-anyhow, anyhow-turn, group-in, in-group, group-goods, group-count}
@@ -146,7 +145,7 @@ module _ (k : ℕ → Bool) where
       bares : Mixed (sel k bare ts +++ none) (d .fore +++ sel k bare (d .tail))
       bares = rw plus-none (subst (λ (z : Trees). Mixed (sel k bare ts) z) (d .bares) (mixed-sel k bare (a .mix)))
 
-      falls : ((count k true (h .mid) ≡ 0) × Stretch k (h .aft)) ⊎ ((Stretch k (h .mid) × (count k true (h .aft) ≡ 0)) ⊎ (Rise k true (h .mid) × Rise k false (h .aft))) → Rise k false (h .aft)
+      falls : Stretch-cut k (h .mid) (h .aft) → Rise k false (h .aft)
       falls (inl z) = absurd (let y = allows-count k true (h .here) in omega (arith, z .0, d .has))
       falls (inr (inl z)) = absurd (let y = bare-heavy k (d .tail) (sym (in-row-count k true (h .behind-it)) ∙ z .1) in let u = mixed-heavy k (a .mix) in omega (arith, d .weight))
       falls (inr (inr z)) = z .1

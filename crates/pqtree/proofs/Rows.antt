@@ -1,17 +1,17 @@
 -- A row of which two branches or more have the kind.
 use mathlib.Core.Path.{_≡_, refl, sym, _∙_}
-use mathlib.Core.Logic.{_⊎_, inl, inr}
+use mathlib.Core.Logic.{inl, inr}
 use mathlib.Core.Bool.{Bool, true, false, cond}
 use mathlib.Core.List.{List, _++_}
 use Prim.Native.Nat.{ℕ, _+_, _≤_}
 use native.Mathlib.Omega.{arith}
 use Rattle.finds.specs.Trees.{row, Trees, none, more, In-row, next, Goods}
-use Rattle.finds.specs.Counts.{count, countT}
+use Rattle.finds.specs.Counts.{countT}
 use Rattle.finds.proofs.Counts.{allows-count, in-row-count, in-one, one-in}
 use Rattle.pqtree.specs.Status.{Status, bare, part, full, status, sorted, weigh, heavy}
 use Rattle.pqtree.specs.Opening.{stuck, laid, _⊞_, open-up, open-all, open-row}
 use Rattle.pqtree.specs.Change.{as-row, if-bare, row-cut}
-use Rattle.pqtree.proofs.Words.{Rise, Stretch, stretch-skip, stretch-join, stretch-cut, stretch-second}
+use Rattle.pqtree.proofs.Words.{Rise, Stretch, Stretch-cut, stretch-skip, stretch-join, stretch-cut, stretch-second}
 use Rattle.pqtree.proofs.Status.{status-says, bare-heavy}
 use Rattle.pqtree.proofs.Chosen.{in-sorted}
 use Rattle.pqtree.proofs.Opening.{Opened, glue, halves, lays, lays-all, open-all-in, open-all-rise, rise-open-all}
@@ -56,8 +56,7 @@ module _ (k : ℕ → Bool) where
   row-cut-from none l g n r s = absurd (omega arith)
   row-cut-from (more t ts) l g n (next {k = x} {l = y} h r) s = go (status k t) refl n (λ n. row-cut-from ts y (g .1) n r (stretch-second k x y s))
     where
-      cut : 1 ≤ countT k true t → 1 ≤ heavy k ts → ((count k true x ≡ 0) × Stretch k y) ⊎ ((Stretch k x × (count k true y ≡ 0)) ⊎ (Rise k true x × Rise k false y)) →
-          Opened (open-up k true t ⊞ open-row k false ts) (x ++ y)
+      cut : 1 ≤ countT k true t → 1 ≤ heavy k ts → Stretch-cut k x y → Opened (open-up k true t ⊞ open-row k false ts) (x ++ y)
       cut has n (inl c) = absurd (let z = allows-count k true h in omega (arith, c .0))
       cut has n (inr (inl c)) = absurd (let z = bare-heavy k ts (sym (in-row-count k true r) ∙ c .1) in omega arith)
       cut has n (inr (inr c)) = glue (open-up k true t) (open-row k false ts) x y (lays k t (g .0) true x .1 h (c .0)) (open-row-from false ts y (g .1) r (c .1))

@@ -1,4 +1,4 @@
--- A well-formed tree has fewer places than twice its graves; and its size by counts, which a change keeps.
+-- A well-formed tree has fewer places than twice its graves; and the size of a tree by counts.
 use mathlib.Core.Path.{_≡_, refl}
 use mathlib.Core.Bool.{Bool, true, false}
 use Prim.Native.Nat.{ℕ, _+_, _*_, _≤_}
@@ -7,8 +7,6 @@ use Rattle.finds.specs.Trees.{Tree, grave, any, row, Trees, none, more, len, Go
 use Rattle.finds.specs.Branches.{_+++_}
 use Rattle.finds.specs.Counts.{hit, countT, countTs}
 use Rattle.pqtree.specs.Size.{nodes, nodess, size, sizes}
-use Rattle.pqtree.specs.Change.{made, step}
-use Rattle.pqtree.proofs.Change.{step-counts}
 
 pub some-nodes : (t : Tree) → 1 ≤ nodes t
 some-nodes (grave g) = omega arith
@@ -44,8 +42,3 @@ mutual
   pub sizes-count : (k : ℕ → Bool) (ts : Trees) → countTs k true ts + countTs k false ts ≡ sizes ts
   sizes-count k none = refl
   sizes-count k (more t ts) = let y = size-count k t in let z = sizes-count k ts in omega arith
-
--- So a change keeps the size.
-pub step-size : (k : ℕ → Bool) (t u : Tree) → Good t → step k t ≡ made u → size u ≡ size t
-step-size k t u g e =
-    let a = size-count k t in let b = size-count k u in let c = step-counts k k true t u g e in let d = step-counts k k false t u g e in omega arith

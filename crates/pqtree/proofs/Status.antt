@@ -3,11 +3,12 @@ use mathlib.Core.Path.{_≡_, refl, subst}
 use mathlib.Core.Bool.{Bool, true, false, true≢false, false≢true}
 use Prim.Native.Nat.{ℕ, zero, suc, _+_, _≤_, _<_}
 use native.Mathlib.Omega.{arith}
-use Rattle.finds.specs.Trees.{Tree, grave, any, row, Trees, none, more, Mixed, no-more, put, Put, first, after, len, Good, Goods}
+use Rattle.finds.specs.Trees.{Tree, Trees, none, more, Mixed, no-more, put, Put, first, after, len, Good, Goods}
 use Rattle.finds.specs.Branches.{_+++_}
-use Rattle.finds.specs.Counts.{hit, countT, countTs}
+use Rattle.finds.specs.Counts.{countT, countTs}
 use Rattle.finds.proofs.Branches.{Alls, mixed-alls}
 use Rattle.pqtree.specs.Status.{Status, bare, part, full, status-of, status, far, same, weigh, heavy}
+use Rattle.pqtree.proofs.Size.{few-nodes, size-count}
 
 -- ---- well-formed branches
 
@@ -23,19 +24,8 @@ pub mixed-goods : {ts us : Trees} → Mixed ts us → Goods ts → Goods us
 mixed-goods {ts} {us} m h = each-goods us (mixed-alls Good m (goods-each ts h))
 
 -- A well-formed tree has a grave.
-mutual
-  pub good-live : (k : ℕ → Bool) (t : Tree) → Good t → 0 < countT k true t + countT k false t
-  good-live k (grave g) h = go (k g)
-    where
-      go : (x : Bool) → 0 < hit x true + hit x false
-      go true = omega arith
-      go false = omega arith
-  good-live k (any ts) h = goods-live k ts (h .1) (omega arith)
-  good-live k (row ts) h = goods-live k ts (h .1) (omega arith)
-
-  goods-live : (k : ℕ → Bool) (ts : Trees) → Goods ts → 0 < len ts → 0 < countTs k true ts + countTs k false ts
-  goods-live k none h p = absurd (omega arith)
-  goods-live k (more t ts) h p = let z = good-live k t (h .0) in omega arith
+pub good-live : (k : ℕ → Bool) (t : Tree) → Good t → 0 < countT k true t + countT k false t
+good-live k t g = let y = few-nodes t g in let z = size-count k t in omega arith
 
 -- ---- statuses
 

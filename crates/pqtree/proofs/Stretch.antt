@@ -167,4 +167,6 @@ one-stretch n o l k r w f = go (stretch-or k n l)
         let a = row-place n o l r w (t .at) (omega (arith, t .before, q .before, p .within)) in
         let b = row-place n o l r w (q .at) (omega (arith, q .before, p .within)) in
         let c = row-place n o l r w (p .at) (omega (arith, p .within)) in
-        absurd (f (getD l (t .at) n) (getD l (q .at) n) (getD l (p .at) n) (a .0) (b .0) (c .0) (t .is) (q .is) (p .is) (omega (arith, t .before, a .1, b .1)) (omega (arith, q .before, b .1, c .1)))
+        absurd
+        (f (getD l (t .at) n) (getD l (q .at) n) (getD l (p .at) n) (a .0) (b .0) (c .0) (t .is) (q .is) (p .is)
+        (omega (arith, t .before, a .1, b .1)) (omega (arith, q .before, b .1, c .1)))

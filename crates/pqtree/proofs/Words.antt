@@ -37,6 +37,14 @@ cuts (x ∷ a) c [] f h = inl (record { mid = x ∷ a; first = refl; second = sy
 cuts (x ∷ a) c (y ∷ e) f h =
     ⊎-elim (λ w. inl (record { mid = w .mid; first = cc; second = w .second })) (λ w. inr (record { mid = w .mid; first = cc; second = w .second })) (cuts a c e f (cc))
 
+-- A row that rises, cut into a and c: the turn lies in one of the parts.
+abbrev pub Rise-cut : (ℕ → Bool) → Bool → List ℕ → List ℕ → Type 0
+Rise-cut k b a c = ((count k b a ≡ 0) × Rise k b c) ⊎ (Rise k b a × (count k (not b) c ≡ 0))
+
+-- A row with the kind in one stretch, cut into a and c: the stretch lies in one of the parts, or the first rises to it and the second falls.
+abbrev pub Stretch-cut : (ℕ → Bool) → List ℕ → List ℕ → Type 0
+Stretch-cut k a c = ((count k true a ≡ 0) × Stretch k c) ⊎ ((Stretch k a × (count k true c ≡ 0)) ⊎ (Rise k true a × Rise k false c))
+
 module _ (k : ℕ → Bool) where
   within-counts : (b : Bool) {a c e f : List ℕ} (w : Within a c e f) →
       (count k b a ≡ count k b e + count k b (w .mid)) × (count k b f ≡ count k b (w .mid) + count k b c)
@@ -75,15 +83,14 @@ module _ (k : ℕ → Bool) where
     keeps = (let z = count-append k (not b) (r .rest) c in omega arith);
   }
 
-  -- Wherever a row that rises is cut, the turn lies in one of the parts.
-  pub rise-cut : (b : Bool) (a c : List ℕ) → Rise k b (a ++ c) → ((count k b a ≡ 0) × Rise k b c) ⊎ (Rise k b a × (count k (not b) c ≡ 0))
+  pub rise-cut : (b : Bool) (a c : List ℕ) → Rise k b (a ++ c) → Rise-cut k b a c
   rise-cut b a c r = go (cuts a c (r .fore) (r .rest) (r .is))
     where
-      go : Within a c (r .fore) (r .rest) ⊎ Within (r .fore) (r .rest) a c → ((count k b a ≡ 0) × Rise k b c) ⊎ (Rise k b a × (count k (not b) c ≡ 0))
+      go : Within a c (r .fore) (r .rest) ⊎ Within (r .fore) (r .rest) a c → Rise-cut k b a c
       go (inl w) = let z = within-counts (not b) w in inr (record { fore = r .fore; rest = w .mid; is = w .first; lacks = r .lacks; keeps = omega arith }, omega arith)
       go (inr w) = let z = within-counts b w in inl (omega arith, record { fore = w .mid; rest = r .rest; is = w .second; lacks = omega arith; keeps = r .keeps })
 
-  -- So each part of it rises.
+  -- Each part of a row that rises does so.
   pub rise-first : (b : Bool) (a c : List ℕ) → Rise k b (a ++ c) → Rise k b a
   rise-first b a c r = ⊎-elim (λ h. rise-free b a (h .0)) (λ h. h .0) (rise-cut b a c r)
 
@@ -107,7 +114,7 @@ module _ (k : ℕ → Bool) where
   pub rise-both : (l : List ℕ) → Rise k true l → Rise k false l → (count k true l ≡ 0) ⊎ (count k false l ≡ 0)
   rise-both l r s = go (rise-cut true (s .fore) (s .rest) (subst (λ (z : List ℕ). Rise k true z) (s .is) r))
     where
-      go : ((count k true (s .fore) ≡ 0) × Rise k true (s .rest)) ⊎ (Rise k true (s .fore) × (count k false (s .rest) ≡ 0)) → (count k true l ≡ 0) ⊎ (count k false l ≡ 0)
+      go : Rise-cut k true (s .fore) (s .rest) → (count k true l ≡ 0) ⊎ (count k false l ≡ 0)
       go (inl h) = inl (ap (count k true) (s .is) ∙ (let z = count-append k true (s .fore) (s .rest) in omega arith))
       go (inr h) = inr (ap (count k false) (s .is) ∙ (let z = count-append k false (s .fore) (s .rest) in omega arith))
 
@@ -148,20 +155,17 @@ module _ (k : ℕ → Bool) where
     falls = rise-skip false (r .rest) c (r .keeps) s;
   }
 
-  -- Wherever such a row is cut, the stretch lies in one of the parts, or the first rises to it and the second falls.
-  pub stretch-cut : (a c : List ℕ) → Stretch k (a ++ c) →
-      ((count k true a ≡ 0) × Stretch k c) ⊎ ((Stretch k a × (count k true c ≡ 0)) ⊎ (Rise k true a × Rise k false c))
+  pub stretch-cut : (a c : List ℕ) → Stretch k (a ++ c) → Stretch-cut k a c
   stretch-cut a c s = go (cuts a c (s .fore) (s .rest) (s .is))
     where
-      go : Within a c (s .fore) (s .rest) ⊎ Within (s .fore) (s .rest) a c →
-          ((count k true a ≡ 0) × Stretch k c) ⊎ ((Stretch k a × (count k true c ≡ 0)) ⊎ (Rise k true a × Rise k false c))
+      go : Within a c (s .fore) (s .rest) ⊎ Within (s .fore) (s .rest) a c → Stretch-cut k a c
       go (inl w) =
           ⊎-elim (λ h. inr (inr (record { fore = s .fore; rest = w .mid; is = w .first; lacks = s .lacks; keeps = h .0 }, h .1)))
           (λ h. inr (inl (record { fore = s .fore; rest = w .mid; is = w .first; lacks = s .lacks; falls = h .0 }, h .1)))
           (rise-cut false (w .mid) c (rw (w .second) at (s .falls)))
       go (inr w) = let z = within-counts true w in inl (omega arith, record { fore = w .mid; rest = s .rest; is = w .second; lacks = omega arith; falls = s .falls })
 
-  -- So it is one stretch in each part.
+  -- The kind is one stretch of each part.
   pub stretch-first : (a c : List ℕ) → Stretch k (a ++ c) → Stretch k a
   stretch-first a c s = ⊎-elim (λ h. stretch-lacks true a (h .0)) (⊎-elim (λ h. h .0) (λ h. rises (h .0))) (stretch-cut a c s)
     where

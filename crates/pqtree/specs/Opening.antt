@@ -30,7 +30,8 @@ if-part bare x y = x
 if-part part x y = y
 if-part full x y = x
 
--- A tree laid open. One that is not partial stays whole. Branches in any order: those that lack b as one branch, at most one that is partial laid open, those that lack the other as one.
+-- A tree laid open. One that is not partial stays whole.
+-- Branches in any order: those that lack b as one branch, at most one that is partial laid open, those that lack the other as one.
 -- Branches in a row must come in sequence, one way or the other, and each is laid open.
 abbrev mutual
   pub open-up : (ℕ → Bool) → Bool → Tree → Opening
