@@ -1,0 +1,5 @@
+pub mod Size
+pub mod Status
+pub mod Opening
+pub mod Change
+pub mod Theorems
