@@ -11,9 +11,9 @@ use Rattle.finds.proofs.Counts.{allows-count}
 use Rattle.pqtree.specs.Status.{heavy}
 use Rattle.pqtree.specs.Opening.{Opening}
 use Rattle.pqtree.specs.Change.{Outcome, made, as-row, as-any, place, row-cut, any-cut, if-one, change, inside, if-two, step}
-use Rattle.pqtree.specs.Size.{size}
+use Rattle.finds.specs.Size.{size}
 use Rattle.pqtree.proofs.Words.{stretch-lacks, stretch-few}
-use Rattle.pqtree.proofs.Size.{size-count}
+use Rattle.finds.proofs.Size.{size-count}
 use Rattle.pqtree.proofs.Status.{heavy-bare}
 use Rattle.pqtree.proofs.Fitting.{Changed, Fit, row-fits, place-fit, any-fits}
 use Rattle.pqtree.proofs.Rows.{row-fit}

@@ -1,5 +1,4 @@
 pub mod Words
-pub mod Size
 pub mod Status
 pub mod Chosen
 pub mod Opening

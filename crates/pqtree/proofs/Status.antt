@@ -8,7 +8,7 @@ use Rattle.finds.specs.Branches.{_+++_}
 use Rattle.finds.specs.Counts.{countT, countTs}
 use Rattle.finds.proofs.Branches.{Alls, mixed-alls}
 use Rattle.pqtree.specs.Status.{Status, bare, part, full, status-of, status, far, same, weigh, heavy}
-use Rattle.pqtree.proofs.Size.{few-nodes, size-count}
+use Rattle.finds.proofs.Size.{few-nodes, size-count}
 
 -- ---- well-formed branches
 

@@ -1,4 +1,3 @@
-pub mod Size
 pub mod Status
 pub mod Opening
 pub mod Change

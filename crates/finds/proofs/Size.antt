@@ -3,30 +3,30 @@ use mathlib.Core.Path.{_≡_, refl}
 use mathlib.Core.Bool.{Bool, true, false}
 use Prim.Native.Nat.{ℕ, _+_, _*_, _≤_}
 use native.Mathlib.Omega.{arith}
 use Rattle.finds.specs.Trees.{Tree, grave, any, row, Trees, none, more, len, Good, Goods}
 use Rattle.finds.specs.Branches.{_+++_}
 use Rattle.finds.specs.Counts.{hit, countT, countTs}
-use Rattle.pqtree.specs.Size.{nodes, nodess, size, sizes}
+use Rattle.finds.specs.Size.{nodes, all-nodes, size, sizes}
 
 pub some-nodes : (t : Tree) → 1 ≤ nodes t
 some-nodes (grave g) = omega arith
 some-nodes (any ts) = omega arith
 some-nodes (row ts) = omega arith
 
-pub nodess-plus : (x y : Trees) → nodess (x +++ y) ≡ nodess x + nodess y
-nodess-plus none y = omega arith
-nodess-plus (more t x) y = let z = nodess-plus x y in omega arith
+pub nodes-plus : (x y : Trees) → all-nodes (x +++ y) ≡ all-nodes x + all-nodes y
+nodes-plus none y = omega arith
+nodes-plus (more t x) y = let z = nodes-plus x y in omega arith
 
 -- Each place where branches meet has two at least.
 mutual
   pub few-nodes : (t : Tree) → Good t → nodes t + 1 ≤ 2 * size t
   few-nodes (grave g) h = omega arith
-  few-nodes (any ts) h = let z = few-nodess ts (h .1) in omega (arith, h .0)
-  few-nodes (row ts) h = let z = few-nodess ts (h .1) in omega (arith, h .0)
+  few-nodes (any ts) h = let z = all-few-nodes ts (h .1) in omega (arith, h .0)
+  few-nodes (row ts) h = let z = all-few-nodes ts (h .1) in omega (arith, h .0)
 
-  pub few-nodess : (ts : Trees) → Goods ts → nodess ts + len ts ≤ 2 * sizes ts
-  few-nodess none h = omega arith
-  few-nodess (more t ts) h = let y = few-nodes t (h .0) in let z = few-nodess ts (h .1) in omega arith
+  pub all-few-nodes : (ts : Trees) → Goods ts → all-nodes ts + len ts ≤ 2 * sizes ts
+  all-few-nodes none h = omega arith
+  all-few-nodes (more t ts) h = let y = few-nodes t (h .0) in let z = all-few-nodes ts (h .1) in omega arith
 
 -- The graves with a kind and those without it are all graves.
 mutual
