@@ -1,16 +1,15 @@
--- From a tree of exactly the orders that fit to one of those that fit with one kind more; and so, kind after kind, for each table.
-use mathlib.Core.Logic.{_⊎_, inl, inr}
+-- From a tree of exactly the orders that fit to one of those that fit with one kind more.
 use mathlib.Core.Bool.{Bool}
-use mathlib.Core.List.{List, [], _∷_}
+use mathlib.Core.List.{List}
 use Prim.Native.Nat.{ℕ, _<_}
 use Rattle.finds.specs.Finds.{Finds, Order, Fits}
-use Rattle.finds.specs.Trees.{Tree, Good, graves, start}
-use Rattle.finds.specs.Exactness.{Row-of, Exactly, Some-fits, None-fits}
+use Rattle.finds.specs.Trees.{Tree, Good, graves}
+use Rattle.finds.specs.Exactness.{Row-of, Exactly, Some-fits}
 use Rattle.finds.specs.Laws.{with-kind}
 use Rattle.finds.proofs.Laws.{one-kind-more}
-use Rattle.finds.proofs.Start.{row-whole, has-row, fill, start-good, start-exact}
+use Rattle.finds.proofs.Start.{row-whole, has-row, fill}
 use Rattle.pqtree.specs.Change.{Outcome, torn, made, step}
-use Rattle.pqtree.specs.Theorems.{Stands, Step-exact, Tree-or-none}
+use Rattle.pqtree.specs.Theorems.{Stands, Step-exact}
 use Rattle.pqtree.proofs.Fitting.{Changed, Fit}
 use Rattle.pqtree.proofs.Change.{step-fit}
 use Rattle.pqtree.proofs.Keeps.{Good-made, step-good}
@@ -42,28 +41,3 @@ step-stands f k t n e (made u) fit g = (g, exact, some-fits (with-kind f k) u ex
 
 pub step-exact : Step-exact
 step-exact f k t n g e = step-stands f k t n e (step k t) (step-fit k t g) (step-good k t g)
-
--- ---- each table
-
--- A tree that stands for the finds, or that no order fits.
-abbrev Answer : Finds → Type 0
-Answer f = ((t : Tree) × Good t × Exactly f t × Some-fits f) ⊎ None-fits f
-
-answer : (f : Finds) (x : Outcome) → Stands f x → Answer f
-answer f torn s = inr s
-answer f (made t) s = inl (t, s .0, s .1, s .2)
-
--- From the last kind on, so that each kind comes as one more. What fits no order fits none with one kind more.
-build : (n : ℕ) → 0 < n → (ks : List (ℕ → Bool)) → Answer (record { graves = n; kinds = ks })
-build n h [] = inl (start n, start-good n h, start-exact n h, some-fits (record { graves = n; kinds = [] }) (start n) (start-exact n h))
-build n h (k ∷ ks) = go (build n h ks)
-  where
-    f : Finds
-    f = record { graves = n; kinds = ks }
-
-    go : Answer f → Answer (with-kind f k)
-    go (inl r) = answer (with-kind f k) (step k (r .0)) (step-exact f k (r .0) h (r .1) (r .2))
-    go (inr none) = inr (λ o fit. none o (one-kind-more f k o .0 fit .0))
-
-pub tree-or-none : Tree-or-none
-tree-or-none f h = build (f .graves) h (f .kinds)

@@ -12,3 +12,4 @@ pub mod Computed
 pub mod Keeps
 pub mod Stretch
 pub mod Exact
+pub mod Growth
