@@ -1,6 +1,6 @@
 -- What the bytes of a table's file mean: a byte with the number of graves, a byte with the number of kinds, and for each kind eight bytes, low byte first, whose bits are the graves in which it lay.
 use mathlib.Core.Bool.{Bool}
-use mathlib.Core.List.{List, [], _∷_}
+use mathlib.Core.List.{List, [], _∷_, map}
 use Prim.Native.Nat.{ℕ, zero, suc, _+_, _*_, _/_}
 use lib.ListN.{getD, length, drop}
 use Rattle.finds.specs.Finds.{Finds}
@@ -24,6 +24,10 @@ kinds-from bs i (suc m) = has (kind-set bs i) ∷ kinds-from bs (suc i) m
 -- The finds of n graves whose kinds stand in these bytes, eight for each kind.
 abbrev pub finds-in : ℕ → List ℕ → Finds
 finds-in n bs = record { graves = n; kinds = kinds-from bs 0 (length bs / 8) }
+
+-- The finds of n graves whose kinds lay in these sets of graves.
+abbrev pub finds-of-sets : ℕ → List ℕ → Finds
+finds-of-sets n ss = record { graves = n; kinds = map has ss }
 
 -- The number of graves that a file states.
 abbrev pub graves-of : List ℕ → ℕ

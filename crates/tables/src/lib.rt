@@ -3,5 +3,6 @@ pub mod orders;
 pub mod reading;
 pub mod refusal;
 pub mod room;
+pub mod sets;
 pub mod stored;
 pub mod verdict;

@@ -11,16 +11,9 @@ ghost use mathlib.Core.Path.{_≡_};
 use crate::reading::kind_at;
 use crate::reading::read;
 use crate::refusal::Refusal;
+use crate::sets::contains;
 use crate::stored::Table;
 use crate::verdict::Verdict;
-
-// Whether the grave is in the set.
-pub fn contains(set: u64, grave: u8) -> bool
-    requires { ⌜ grave < 64 ⌝ }
-    ensures { λ r. ⌜ r ≡ has set grave ⌝ }
-{
-    set >> grave & 1 == 1
-}
 
 // Whether the grave stands before the place.
 fn stood_before(order: &[u8], p: usize, grave: u8) -> bool
