@@ -1,8 +1,8 @@
 // Sets of graves in the bits of numbers.
 ghost use Prim.Native.Nat.{ℕ, _/_, _≤_, _<_};
 ghost use Rattle.finds.specs.Sets.{has};
-ghost use Rattle.tables.specs.Format.{finds-in, finds-of-sets};
-ghost use lib.ListN.{length, take, drop};
+ghost use Rattle.tables.specs.Format.{kind-set, finds-in, finds-of-sets};
+ghost use lib.ListN.{length, getD, take, drop};
 ghost use mathlib.Core.Path.{_≡_};
 use crate::reading::kind_at;
 use crate::stored::Table;
@@ -20,6 +20,7 @@ pub fn kind_sets(table: Table, sets: &mut [u64]) -> usize
     requires short { ⌜ length (now (table .kinds)) ≤ 1024 ⌝ }
     requires room { ⌜ length (now (table .kinds)) / 8 ≤ length (now sets) ⌝ }
     ensures count { λ r. ⌜ r ≡ length (now (table .entry .kinds)) / 8 ⌝ }
+    ensures written { λ r. ⌜ ((i : ℕ) → i < r → getD (now (sets .exit)) i 0 ≡ kind-set (now (table .entry .kinds)) i) ⌝ }
     ensures finds { λ r. ⌜ finds-in (table .entry .graves) (now (table .entry .kinds)) ≡ finds-of-sets (table .entry .graves) (take r (now (sets .exit))) ⌝ }
     ensures rest { λ r. ⌜ drop r (now (sets .exit)) ≡ drop r (now (sets .entry)) ⌝ }
 {

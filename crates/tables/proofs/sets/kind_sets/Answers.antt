@@ -24,6 +24,7 @@ returns c =
     let bs = c .args .table .kinds .now in let m = length bs / 8 in let ss = c .loop-i .sets in
     record {
       count = refl;
+      written = λ i h. c .loop-i .inv .0 i (omega arith);
       finds = ap (λ (ks : List (ℕ → Bool)). record { graves = c .args .table .graves; kinds = ks })
           (kinds-as-sets bs 0 m (take m ss) (length-take-le m ss (omega arith)) (λ j h l e. let z : j ≡ h = omega arith in getD-take m ss j 0 l ∙ c .loop-i .inv .0 j (omega arith) ∙ ap (kind-set bs) z));
       rest = ext-getD 0 _ _ (simp length-drop (omega arith)) (λ k h. getD-drop m ss k 0 ∙ c .loop-i .inv .1 (m + k) (omega arith) ∙ sym (getD-drop m (c .args .sets .now) k 0));
