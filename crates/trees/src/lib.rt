@@ -1,0 +1,1 @@
+// Trees of orders in lent rows.
