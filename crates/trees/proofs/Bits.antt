@@ -4,9 +4,11 @@ use mathlib.Core.Logic.{_≢_}
 use Prim.Native.Nat.{ℕ, zero, suc, _+_, _*_, _/_, _%_, _^_, _≤_, _<_, min, max}
 use native.Mathlib.Omega.{arith}
 use native.Mathlib.Nat.{pow-suc}
+use native.Mathlib.Numerals.{one-add}
 use lib.Arith.{bin-ind}
 use lib.Bits.{bitAnd, bitOr, and-step, or-step}
 use lib.Count.{ones, onesIn, ones-step}
+use Rattle.std.proofs.shelf.Bits.{shr-shr}
 use Rattle.finds.specs.Sets.{bit}
 
 pub ones-none : ones 0 ≡ 0
@@ -52,6 +54,17 @@ bit-pow-other zero zero n = absurd (n refl)
 bit-pow-other zero (suc x) n = pow-halves x .1
 bit-pow-other (suc g) zero n = bit-zero g
 bit-pow-other (suc g) (suc x) n = ap (bit g) (pow-halves x .0) ∙ bit-pow-other g x (λ e. n (ap suc e))
+
+-- A bit by a shift.
+pub bit-is : (g s : ℕ) → bit g s ≡ s / 2 ^ g % 2
+bit-is zero s = omega arith
+bit-is (suc g) s = bit-is g (s / 2) ∙ ap (λ (x : ℕ). x % 2) (shr-shr s 1 g ∙ ap (λ (x : ℕ). s / 2 ^ x) (one-add g))
+
+-- Bits beyond the number's own are 0.
+pub bit-beyond : (d g s : ℕ) → s < 2 ^ d → d ≤ g → bit g s ≡ 0
+bit-beyond zero g s h l = let z : s ≡ 0 = omega arith in rw z (bit-zero g)
+bit-beyond (suc d) zero s h l = absurd (omega arith)
+bit-beyond (suc d) (suc g) s h l = bit-beyond d g (s / 2) (let z = pow-suc 2 d in omega arith) (omega arith)
 
 -- A number with no bit is 0, and numbers with the same bits are equal.
 no-bits : (a : ℕ) → ((g : ℕ) → bit g a ≡ 0) → a ≡ 0

@@ -9,7 +9,7 @@ use lib.ListN.{length}
 use Rattle.std.proofs.shelf.Tests.{cases-lt}
 use Rattle.finds.specs.Trees.{Tree, grave, any, row, Trees, none, more, len, Good, Goods}
 use Rattle.finds.specs.Branches.{_+++_, revs}
-use Rattle.trees.specs.Cells.{nodes, all-nodes, size, sizes, kids, Cells, Body, Ats, Holds, Ends, Part, roots, Parts}
+use Rattle.trees.specs.Cells.{nodes, all-nodes, size, sizes, set-of, kids, Cells, Body, Ats, Holds, Ends, Part, roots, Parts}
 
 -- ---- how many cells
 
@@ -29,6 +29,11 @@ mutual
   all-few-nodes none h = omega arith
   all-few-nodes (more t ts) h = let y = few-nodes t (h .0) in let z = all-few-nodes ts (h .1) in omega arith
 
+-- Each branch takes a cell at least.
+pub len-nodes : (ts : Trees) → len ts ≤ all-nodes ts
+len-nodes none = omega arith
+len-nodes (more t ts) = let y = some-nodes t in let z = len-nodes ts in omega arith
+
 pub nodes-plus : (x y : Trees) → all-nodes (x +++ y) ≡ all-nodes x + all-nodes y
 nodes-plus none y = omega arith
 nodes-plus (more t x) y = let z = nodes-plus x y in omega arith
@@ -42,6 +47,11 @@ pub kids-ats : (R : Cells) (i : ℕ) (t : Tree) → Body R i t → Ats R (suc i)
 kids-ats R i (grave g) b = tt
 kids-ats R i (any ts) b = b .2
 kids-ats R i (row ts) b = b .2
+
+pub body-set : (R : Cells) (i : ℕ) (t : Tree) → Body R i t → R .set i ≡ set-of t
+body-set R i (grave g) b = b .1
+body-set R i (any ts) b = b .1
+body-set R i (row ts) b = b .1
 
 -- ---- parents
 

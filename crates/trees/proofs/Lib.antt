@@ -1,3 +1,5 @@
 pub mod Cells
 pub mod Bits
 pub mod Sets
+pub mod Standing
+pub mod Walking

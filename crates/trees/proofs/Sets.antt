@@ -10,7 +10,7 @@ use lib.Dec.{eqb}
 use lib.Pow.{pow-lt}
 use Rattle.std.proofs.shelf.Tests.{cases-lt}
 use Rattle.std.proofs.shelf.Ways.{eqb-tells}
-use Rattle.finds.specs.Trees.{Tree, grave, any, row, Trees, none, more, Good, Goods}
+use Rattle.finds.specs.Trees.{Tree, grave, any, row, Trees, none, more, len, Good, Goods}
 use Rattle.finds.specs.Branches.{_+++_}
 use Rattle.finds.specs.Counts.{hit, countT, countTs}
 use Rattle.finds.specs.Sets.{bit}
@@ -18,7 +18,7 @@ use Rattle.finds.proofs.Counts.{countTs-plus}
 use Rattle.trees.specs.Cells.{nodes, size, sizes, set-of, sets-of, kids, Sound, Sounds}
 use Rattle.trees.specs.Masks.{Mask}
 use Rattle.trees.proofs.Bits.{bit-low, bit-zero, bit-or, bit-pow, bit-pow-other, bit-ext, or-assoc, ones-none, ones-plus, ones-or, ones-pow}
-use Rattle.trees.proofs.Cells.{few-nodes}
+use Rattle.trees.proofs.Cells.{few-nodes, all-few-nodes, len-nodes}
 
 -- ---- sound trees and their branches
 
@@ -132,6 +132,10 @@ mutual
 
 pub few-graves : (t : Tree) → Sound t → size t ≤ 64
 few-graves t s = let e = set-size t s in let l = ones-le 64 (set-of t) (set-fits t s) in omega arith
+
+pub few-branches : (ts : Trees) → Sounds ts → len ts ≤ 64
+few-branches ts s =
+    let e = sets-size ts s in let l = ones-le 64 (sets-of ts) (sets-fit ts s) in let m = all-few-nodes ts (s .good) in let n = len-nodes ts in omega arith
 
 pub few-cells : (t : Tree) → Sound t → nodes t ≤ 127
 few-cells t s = let l = few-graves t s in let m = few-nodes t (s .good) in omega arith

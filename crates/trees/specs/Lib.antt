@@ -1,2 +1,4 @@
 pub mod Cells
 pub mod Masks
+pub mod Rows
+pub mod Walks

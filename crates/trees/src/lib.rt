@@ -1,1 +1,3 @@
-// Trees of orders in lent rows.
+// Trees of orders (PQ-trees) in lent rows: for each cell its parent, its sort, its place among the siblings, and the set of graves below it.
+pub mod rows;
+pub mod walk;
