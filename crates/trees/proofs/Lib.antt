@@ -3,3 +3,4 @@ pub mod Bits
 pub mod Sets
 pub mod Standing
 pub mod Walking
+pub mod Allowing

@@ -1,4 +1,6 @@
 pub mod Cells
 pub mod Masks
+pub mod Sorts
 pub mod Rows
 pub mod Walks
+pub mod Reading
