@@ -1,13 +1,15 @@
 -- How a row of graves is read against branches: which part of it stands for which branch.
 use mathlib.Core.Path.{_≡_, refl, sym, ap, subst, _∙_}
+use mathlib.Core.Logic.{_⊎_, inl, inr}
 use mathlib.Core.Bool.{Bool, true, false, not}
 use mathlib.Core.List.{List, [], _∷_, _++_}
-use Prim.Native.Nat.{ℕ, suc, _+_, _-_, _≤_, _<_}
+use Prim.Native.Nat.{ℕ, suc, _+_, _-_, _^_, _≤_, _<_}
 use native.Mathlib.Omega.{arith}
 use lib.Dec.{eqb}
 use lib.ListN.{length, getD, take, drop}
 use Rattle.std.proofs.shelf.Lists.{take-append-drop, take-at, drop-at, take-take, drop-drop, drop-take, length-take, length-take-le, length-append, getD-take}
-use Rattle.std.proofs.shelf.Tests.{eqb-true, eqb-false}
+use Rattle.std.proofs.shelf.Tests.{eqb-true, eqb-false, eq-eqb, cases-eq}
+use Rattle.std.specs.Orderings.{Decides}
 use Rattle.finds.specs.Branches.{_+++_, revs}
 use Rattle.finds.specs.Counts.{count, countT, countTs}
 use Rattle.finds.specs.Sets.{bit, has}
@@ -17,6 +19,7 @@ use Rattle.finds.proofs.Counts.{countTs-plus, allows-count, in-row-count, mixed
 use Rattle.finds.proofs.Start.{every, count-length, count-at}
 use Rattle.trees.specs.Cells.{size, sizes, set-of, Sounds}
 use Rattle.trees.specs.Reading.{Reads, left-of, begin-of}
+use Rattle.trees.proofs.Bits.{bit-pow, bit-pow-other}
 use Rattle.trees.proofs.Cells.{some-nodes, len-nodes, few-nodes, all-few-nodes}
 use Rattle.trees.proofs.Sets.{bit-set}
 
@@ -54,6 +57,20 @@ sizes-mixed {ts} {us} m = sym (every-sizes us) ∙ mixed-count every true m ∙ 
 
 pub goods-len : (ts : Trees) → Goods ts → len ts ≤ sizes ts
 goods-len ts h = let a = all-few-nodes ts h in let b = len-nodes ts in omega arith
+
+-- ---- one grave
+
+pub grave-allows : (g : ℕ) (l : List ℕ) → length l ≡ 1 → Decides (has (2 ^ g) (getD l 0 0)) (Allows (grave g) l)
+grave-allows g [] e = absurd (omega arith)
+grave-allows g (x ∷ []) e = ((λ h. go (cases-eq x g) h), (λ a. from a refl))
+  where
+    go : (x ≡ g) ⊎ (x ≡ g → ⊥) → has (2 ^ g) x ≡ true → Allows (grave g) (x ∷ [])
+    go (inl s) h = rw s one
+    go (inr n) h = absurd (let a = bit-pow-other x g n in let b = eqb-true (bit x (2 ^ g)) 1 h in omega arith)
+
+    from : {m : List ℕ} → Allows (grave g) m → m ≡ x ∷ [] → has (2 ^ g) x ≡ true
+    from one s = let z : g ≡ x = cc in eq-eqb (bit x (2 ^ g)) 1 (subst (λ (y : ℕ). bit y (2 ^ g) ≡ 1) z (bit-pow g))
+grave-allows g (x ∷ y ∷ l) e = absurd (omega arith)
 
 -- ---- the first branch, or the last
 

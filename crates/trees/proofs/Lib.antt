@@ -4,3 +4,5 @@ pub mod Sets
 pub mod Standing
 pub mod Walking
 pub mod Allowing
+pub mod Picking
+pub mod Taking

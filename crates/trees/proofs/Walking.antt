@@ -6,8 +6,9 @@ use native.Mathlib.Omega.{arith}
 use Rattle.finds.specs.Branches.{_+++_}
 use Rattle.finds.specs.Trees.{Tree, Trees, none, more}
 use Rattle.finds.proofs.Branches.{plus-assoc, plus-none}
-use Rattle.trees.specs.Cells.{nodes, all-nodes, kids, Cells, Part, Sounds}
+use Rattle.trees.specs.Cells.{nodes, all-nodes, kids, Cells, Part, Sound, Sounds}
 use Rattle.trees.specs.Rows.{seen, Stands}
+use Rattle.trees.specs.Walks.{Branch-with}
 use Rattle.trees.specs.declared.rows.View.{View}
 use Rattle.trees.proofs.Cells.{some-nodes, kids-nodes, nodes-plus, part-at}
 use Rattle.trees.proofs.Sets.{sound-kids, sounds-cut, sounds-first}
@@ -67,11 +68,25 @@ walk-end {t = t} {P = P} w h l = go (w .rest) refl
     go (more u r) z = absurd (let a = come-nodes w in let b = ap all-nodes z in let d = some-nodes u in omega arith)
 
 -- A branch of a sound tree is sound, so the walk may go on from it.
+pub next-sound : {R : Cells} {n i c : ℕ} {t : Tree} {P : Trees → Trees → Type 0} → Sound t → (x : Next R n i c t P) → Sound (x .it)
+next-sound {t = t} s x = sounds-first (x .it) (x .rest) (sounds-cut (x .done) (more (x .it) (x .rest)) (subst Sounds (x .is) (sound-kids t s)) .1)
+
 pub next-stands : {v : View} {n i c : ℕ} {P : Trees → Trees → Type 0} → (s : Stands v n i) → Next (seen v) n i c (s .tree) P → Stands v n c
 next-stands s x = record {
   long = s .long;
   few = s .few;
+  below = omega (arith, x .part .1, some-nodes (x .it));
   tree = x .it;
   part = x .part;
-  sound = sounds-first (x .it) (x .rest) (sounds-cut (x .done) (more (x .it) (x .rest)) (subst Sounds (x .is) (sound-kids (s .tree) (s .sound))) .1);
+  sound = next-sound (s .sound) x;
 }
+
+pub walk-stands : {v : View} {n i c e : ℕ} {P : Tree → Trees → Trees → Type 0} → Stands v n i → Walked (seen v) n i c P → ((t : Tree) → Part (seen v) n i t → e ≡ i + nodes t) → c < e → Stands v n c
+walk-stands s w f l = next-stands s (walk-next (s .part) (w (s .tree) (s .part)) (f (s .tree) (s .part)) l)
+
+-- The branch that has a grave is a part, and sound.
+pub with-part : (R : Cells) (n : ℕ) {i g c : ℕ} {t : Tree} → (b : Branch-with i g t c) → Part R n i t → Part R n c (b .it)
+with-part R n {i} {t = t} b p = subst (λ (x : ℕ). Part R n x (b .it)) (sym (b .at)) (part-at R n i t (b .before) (b .it) (b .behind) p (b .is))
+
+pub with-sound : {i g c : ℕ} {t : Tree} → Sound t → (b : Branch-with i g t c) → Sound (b .it)
+with-sound {t = t} s b = sounds-first (b .it) (b .behind) (sounds-cut (b .before) (more (b .it) (b .behind)) (subst Sounds (b .is) (sound-kids t s)) .1)

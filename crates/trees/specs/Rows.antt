@@ -22,6 +22,7 @@ pub record Long (v : View) (n : ℕ) : Type 0 where
 pub record Stands (v : View) (n i : ℕ) : Type 0 where
   pub long : Long v n
   pub few : n ≤ 127
+  pub below : i < n
   pub tree : Tree
   pub part : Part (seen v) n i tree
   pub sound : Sound tree

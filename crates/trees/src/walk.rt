@@ -2,6 +2,7 @@
 use crate::rows::View;
 ghost use mathlib.Core.Path.{_≡_};
 ghost use Prim.Native.Nat.{ℕ, _+_, _≤_, _<_};
+ghost use lib.Count.{ones};
 ghost use lib.ListN.{length, drop};
 ghost use Rattle.std.specs.Options.{Cases as BySome};
 ghost use Rattle.finds.specs.Sets.{bit, has};
@@ -15,6 +16,15 @@ pub fn is_in(grave: u8, set: u64) -> bool
     ensures { λ r. ⌜ r ≡ has set grave ⌝ }
 {
     grave < 64 && (set >> grave) & 1 == 1
+}
+
+// How many graves the part with its root in cell i has.
+pub fn graves_at(view: View, count: usize, i: usize) -> usize
+    requires { ⌜ Stands view count i ⌝ }
+    ensures many { λ r. ⌜ r ≡ ones (seen (view .entry) .set i) ⌝ }
+    ensures some { λ r. ⌜ (1 ≤ r) × (r ≤ 64) ⌝ }
+{
+    view.sets[i].count_ones() as usize
 }
 
 // The first cell behind the part that has its root in cell i, of count cells.
@@ -54,7 +64,8 @@ pub fn branches(view: View, count: usize, i: usize, into: &mut [u8]) -> usize
 // The branch of cell i that has the grave, if there is one.
 pub fn branch_with(view: View, count: usize, i: usize, grave: u8) -> Option<usize>
     requires { ⌜ Stands view count i ⌝ }
-    ensures { λ r. ⌜ ((t : Tree) → Part (seen (view .entry)) count i t → BySome r (bit grave (sets-of (kids t)) ≡ 0) (λ c. Branch-with i grave t c)) ⌝ }
+    ensures stands { λ r. ⌜ BySome r (Unit {0}) (λ c. Stands (view .entry) count c) ⌝ }
+    ensures found { λ r. ⌜ ((t : Tree) → Part (seen (view .entry)) count i t → BySome r (bit grave (sets-of (kids t)) ≡ 0) (λ c. Branch-with i grave t c)) ⌝ }
 {
     let end = next_after(view, count, i);
     let mut at = i + 1;

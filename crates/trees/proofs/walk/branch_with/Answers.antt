@@ -11,7 +11,7 @@ use Rattle.trees.specs.Rows.{seen}
 use Rattle.trees.proofs.Bits.{bit-or, bit-low, bit-zero}
 use Rattle.trees.proofs.Cells.{body-set}
 use Rattle.trees.proofs.Sets.{sets-more}
-use Rattle.trees.proofs.Walking.{walk-start, walk-next, walk-more, walk-end, next-stands}
+use Rattle.trees.proofs.Walking.{walk-start, walk-next, walk-more, walk-end, walk-stands}
 use Rattle.trees.proofs.walk.branch_with.Needs as need
 
 -- None of the branches that are done has the grave.
@@ -35,13 +35,15 @@ pub loop-at-holds : need.loop-at-holds
 loop-at-holds c = λ t p. walk-start (c .args .i) t (Without (c .args .grave)) (bit-zero (c .args .grave))
 
 pub next-after-at-requires : need.next-after-at-requires
-next-after-at-requires c κs =
-    let s = c .pre in next-stands s (walk-next (s .part) (c .loop-at .inv (s .tree) (s .part)) (c .next-after-end .ensures .end (s .tree) (s .part)) (c .loop-at-test .taken))
+next-after-at-requires c κs = walk-stands (c .pre) (c .loop-at .inv) (c .next-after-end .ensures .end) (c .loop-at-test .taken)
 
 pub returns-then-is-in : need.returns-then-is-in
-returns-then-is-in c = λ t p.
-    let x = walk-next p (c .loop-at .inv t p) (c .next-after-end .ensures .end t p) (c .loop-at-test .taken) in
-    record { before = x .done; it = x .it; behind = x .rest; is = x .is; at = x .at; in-it = found (c .args .grave) _ (x .it) (body-set (seen (c .args .view)) (c .loop-at .at) (x .it) (x .part .0)) (c .if-is-in .ensures tt) }
+returns-then-is-in c = record {
+  stands = walk-stands (c .pre) (c .loop-at .inv) (c .next-after-end .ensures .end) (c .loop-at-test .taken);
+  found = λ t p.
+      let x = walk-next p (c .loop-at .inv t p) (c .next-after-end .ensures .end t p) (c .loop-at-test .taken) in
+      record { before = x .done; it = x .it; behind = x .rest; is = x .is; at = x .at; in-it = found (c .args .grave) _ (x .it) (body-set (seen (c .args .view)) (c .loop-at .at) (x .it) (x .part .0)) (c .if-is-in .ensures tt) };
+}
 
 pub loop-at-again : need.loop-at-again
 loop-at-again c = λ t p.
@@ -50,4 +52,4 @@ loop-at-again c = λ t p.
     (passed (c .args .grave) _ (x .done) (x .it) (body-set (seen (c .args .view)) (c .loop-at .at) (x .it) (x .part .0)) (x .so) (c .if-is-in .ensures tt))
 
 pub returns : need.returns
-returns c = λ t p. walk-end (c .loop-at .inv t p) (c .next-after-end .ensures .end t p) (c .loop-at-test .left)
+returns c = record { stands = tt; found = λ t p. walk-end (c .loop-at .inv t p) (c .next-after-end .ensures .end t p) (c .loop-at-test .left) }

@@ -13,7 +13,7 @@ use Rattle.trees.specs.declared.rows.View.{View}
 use Rattle.trees.specs.Walks.{Listed}
 use Rattle.trees.proofs.Cells.{roots-plus}
 use Rattle.trees.proofs.Sets.{sound-kids, few-branches}
-use Rattle.trees.proofs.Walking.{Next, walk-start, walk-next, walk-more, walk-end, next-stands}
+use Rattle.trees.proofs.Walking.{Next, walk-start, walk-next, walk-more, walk-end, walk-stands}
 use Rattle.trees.proofs.walk.branches.Needs as need
 
 -- While there is a branch to come, fewer than 64 are listed.
@@ -48,9 +48,7 @@ pub add-many : need.add-many
 add-many c = omega (arith, few c)
 
 pub next-after-at-requires : need.next-after-at-requires
-next-after-at-requires c κs =
-    let s = c .pre .stands in
-    next-stands s (walk-next (s .part) (c .loop-at .inv .0 (s .tree) (s .part)) (c .next-after-end .ensures .end (s .tree) (s .part)) (c .loop-at-test .taken))
+next-after-at-requires c κs = walk-stands (c .pre .stands) (c .loop-at .inv .0) (c .next-after-end .ensures .end) (c .loop-at-test .taken)
 
 pub loop-at-again : need.loop-at-again
 loop-at-again c =

@@ -2,12 +2,11 @@ use mathlib.Core.Logic.{inl, inr}
 use native.Mathlib.Omega.{arith}
 use Rattle.trees.specs.Rows.{seen}
 use Rattle.trees.proofs.Cells.{end-is}
-use Rattle.trees.proofs.Standing.{stands-below}
 use Rattle.trees.proofs.walk.next_after.Needs as need
 
 pub loop-end-holds : need.loop-end-holds
 loop-end-holds c =
-    (omega arith, omega (arith, stands-below (c .args .view) (c .args .count) (c .args .i) (c .pre)), λ x h l. absurd (omega arith))
+    (omega arith, omega (arith, c .pre .below), λ x h l. absurd (omega arith))
 
 pub returns-then-view-end : need.returns-then-view-end
 returns-then-view-end c = record {
