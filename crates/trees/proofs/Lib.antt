@@ -6,3 +6,5 @@ pub mod Walking
 pub mod Allowing
 pub mod Picking
 pub mod Taking
+pub mod Writing
+pub mod Starting

@@ -3,10 +3,10 @@ use mathlib.Core.Path.{_≡_}
 use mathlib.Core.Logic.{_⊎_}
 use mathlib.Core.Bool.{true}
 use mathlib.Core.List.{List, [], _∷_}
-use Prim.Native.Nat.{ℕ, suc, _+_, _^_, _≤_, _<_}
+use Prim.Native.Nat.{ℕ, suc, _+_, _^_, _≤_, _<_, min}
 use lib.Bits.{bitOr}
 use lib.Dec.{eqb}
-use lib.ListN.{getD}
+use lib.ListN.{length, getD}
 use Rattle.finds.specs.Trees.{Tree, grave, any, row, Trees, none, more, Good, Goods}
 use Rattle.finds.specs.Counts.{countT, countTs}
 
@@ -74,6 +74,23 @@ pub record Cells : Type 0 where
 -- The cells that four lists hold.
 abbrev pub cells : List ℕ → List ℕ → List ℕ → List ℕ → Cells
 cells ps ss qs ms = record { parent = λ i. getD ps i 0; sort = λ i. getD ss i 0; place = λ i. getD qs i 0; set = λ i. getD ms i 0 }
+
+-- Four lent rows together, and the cells that they hold.
+pub record Lent : Type 0 where
+  pub parents : List ℕ
+  pub sorts : List ℕ
+  pub places : List ℕ
+  pub sets : List ℕ
+
+abbrev pub lent : List ℕ → List ℕ → List ℕ → List ℕ → Lent
+lent ps ss qs ms = record { parents = ps; sorts = ss; places = qs; sets = ms }
+
+abbrev pub held : Lent → Cells
+held r = cells (r .parents) (r .sorts) (r .places) (r .sets)
+
+-- How many cells the rows have room for: as many as the shortest of them has.
+abbrev pub shortest : Lent → ℕ
+shortest r = min (min (length (r .parents)) (length (r .sorts))) (min (length (r .places)) (length (r .sets)))
 
 -- From cell i on lies t; what the parent and the place of cell i itself are is left open.
 abbrev mutual

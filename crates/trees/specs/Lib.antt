@@ -4,3 +4,4 @@ pub mod Sorts
 pub mod Rows
 pub mod Walks
 pub mod Reading
+pub mod Starting

@@ -1,4 +1,5 @@
 // Trees of orders (PQ-trees) in lent rows: for each cell its parent, its sort, its place among the siblings, and the set of graves below it.
 pub mod allowed;
+pub mod first;
 pub mod rows;
 pub mod walk;

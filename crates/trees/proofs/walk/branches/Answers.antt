@@ -3,7 +3,7 @@ use mathlib.Core.List.{List, _∷_, [], _++_}
 use Prim.Native.Nat.{ℕ, suc, _+_, _≤_, _<_}
 use native.Mathlib.Omega.{arith}
 use lib.ListN.{length, drop, set}
-use Rattle.std.proofs.shelf.Lists.{take-more-set, drop-set-lt, drop-drop}
+use Rattle.std.proofs.shelf.Lists.{take-more-set}
 use Rattle.finds.specs.Trees.{Tree, Trees, none, more, len}
 use Rattle.finds.specs.Branches.{_+++_}
 use Rattle.finds.proofs.Branches.{len-plus}
@@ -14,6 +14,7 @@ use Rattle.trees.specs.Walks.{Listed}
 use Rattle.trees.proofs.Cells.{roots-plus}
 use Rattle.trees.proofs.Sets.{sound-kids, few-branches}
 use Rattle.trees.proofs.Walking.{Next, walk-start, walk-next, walk-more, walk-end, walk-stands}
+use Rattle.trees.proofs.Writing.{kept-more}
 use Rattle.trees.proofs.walk.branches.Needs as need
 
 -- While there is a branch to come, fewer than 64 are listed.
@@ -29,9 +30,6 @@ listed-more {i} {many} {into} {done} at it l e h = record {
   all = (let a = len-plus done (more it none) in omega (arith, h .all));
   front = take-more-set into many at l ∙ ap (λ (x : List ℕ). x ++ (at ∷ [])) (h .front) ∙ ap (λ (x : ℕ). roots (suc i) done ++ (x ∷ [])) e ∙ sym (roots-plus (suc i) done (more it none));
 }
-
-beyond : (many at : ℕ) (into old : List ℕ) → drop many into ≡ drop many old → drop (many + 1) (set into many at) ≡ drop (many + 1) old
-beyond many at into old e = drop-set-lt (many + 1) into many at (omega arith) ∙ sym (drop-drop 1 many into) ∙ ap (drop 1) e ∙ drop-drop 1 many old
 
 pub loop-at-holds : need.loop-at-holds
 loop-at-holds c = ((λ t p. walk-start (c .args .i) t _ (record { all = refl; front = refl })), refl)
@@ -58,7 +56,7 @@ loop-at-again c =
       (λ t p.
           let x = walk-next p (c .loop-at .inv .0 t p) (c .next-after-end .ensures .end t p) (c .loop-at-test .taken) in
           walk-more _ (c .next-after-at .result) x (c .next-after-at .ensures .end (x .it) (x .part)) (listed-more (c .loop-at .at) (x .it) l (x .at) (x .so))),
-      beyond (c .loop-at .many) (c .loop-at .at) (c .loop-at .into) (c .args .into .now) (c .loop-at .inv .1),
+      kept-more (c .loop-at .many) (c .loop-at .at) (c .loop-at .into) (c .args .into .now) (c .loop-at .inv .1),
     )
 
 pub returns : need.returns
