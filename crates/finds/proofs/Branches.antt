@@ -37,6 +37,10 @@ pub goods-plus : (x y : Trees) → Goods x → Goods y → Goods (x +++ y)
 goods-plus none y a c = c
 goods-plus (more t x) y a c = (a .0, goods-plus x y (a .1) c)
 
+pub goods-right : (x y : Trees) → Goods (x +++ y) → Goods y
+goods-right none y a = a
+goods-right (more t x) y a = goods-right x y (a .1)
+
 -- ---- turned round
 
 pub revs-plus : (x y : Trees) → revs (x +++ y) ≡ revs y +++ revs x
@@ -66,9 +70,12 @@ is-turned (more t ts) = last (is-turned ts) (end-at (revs ts) t)
 
 -- ---- a branch put in somewhere
 
+pub put-under : {t : Tree} {us vs : Trees} (x : Trees) → Put t us vs → Put t (x +++ us) (x +++ vs)
+put-under none p = p
+put-under (more u x) p = after (put-under x p)
+
 pub put-mid : (t : Tree) (x y : Trees) → Put t (x +++ y) (x +++ more t y)
-put-mid t none y = first
-put-mid t (more u x) y = after (put-mid t x y)
+put-mid t x y = put-under x first
 
 -- Where a branch was put in: the ones on its left and on its right.
 pub record Around (t : Tree) (w v : Trees) : Type 0 where

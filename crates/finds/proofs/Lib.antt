@@ -4,3 +4,4 @@ pub mod Branches
 pub mod Counts
 pub mod Start
 pub mod Worked
+pub mod Size

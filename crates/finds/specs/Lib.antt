@@ -4,6 +4,7 @@ pub mod Finds
 pub mod Trees
 pub mod Branches
 pub mod Counts
+pub mod Size
 pub mod Exactness
 pub mod Laws
 pub mod Worked

@@ -1,6 +1,7 @@
 // The reader of a table's file: each check hands on its value or names the refusal.
 ghost use Prim.Native.Nat.{ℕ, _+_, _*_, _%_, _^_, _≤_, _<_};
 ghost use Rattle.std.specs.Options.{Cases as BySome};
+ghost use Rattle.std.specs.Orderings.{When};
 ghost use Rattle.tables.specs.Format.{word-at, kind-set, graves-of, kind-count};
 ghost use Rattle.tables.specs.Reading.{Bad-graves, Bad-kinds, Bad-length, Shortage, Stray, Reads};
 ghost use lib.ListN.{length, drop};
@@ -88,11 +89,19 @@ fn word(bytes: &[u8]) -> u64
 }
 
 // The graves of kind i: a part of the bytes that starts in their middle.
-fn kind_at(kinds: &[u8], i: usize) -> u64
+pub fn kind_at(kinds: &[u8], i: usize) -> u64
     requires { ⌜ 8 * i + 8 ≤ length (now kinds) ⌝ ∗ ⌜ length (now kinds) ≤ 1024 ⌝ }
     ensures { λ r. ⌜ r ≡ kind-set (now (kinds .entry)) i ⌝ }
 {
     word(&kinds[8 * i..8 * i + 8])
+}
+
+// Whether the set has a grave at or above n.
+fn reaches(set: u64, n: u8) -> bool
+    requires { ⌜ n ≤ 64 ⌝ }
+    ensures { λ r. ⌜ When r (2 ^ n ≤ set) (set < 2 ^ n) ⌝ }
+{
+    n < 64 && set >> n != 0
 }
 
 // The first of m kinds that lay in a grave at or above n, if any.
@@ -100,9 +109,8 @@ fn stray(kinds: &[u8], n: u8, m: u8) -> Option<usize>
     requires { ⌜ length (now kinds) ≡ 8 * m ⌝ ∗ ⌜ m ≤ 128 ⌝ ∗ ⌜ 1 ≤ n ⌝ ∗ ⌜ n ≤ 64 ⌝ }
     ensures { λ r. ⌜ BySome r ((i : ℕ) → i < m → Stray n (now (kinds .entry)) i → ⊥) (λ at. (at < m) × Stray n (now (kinds .entry)) at × ((i : ℕ) → i < at → Stray n (now (kinds .entry)) i → ⊥)) ⌝ }
 {
-    let top = u64::MAX >> (64 - n);
     for i in 0..m as usize {
-        if kind_at(kinds, i) > top {
+        if reaches(kind_at(kinds, i), n) {
             return Some(i);
         }
     }

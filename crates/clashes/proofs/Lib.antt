@@ -1,0 +1,14 @@
+pub mod Clashes
+pub mod Walks
+pub mod Labels
+pub mod Colours
+pub mod Triangle
+pub mod Circle
+pub mod Counts
+pub mod Tournament
+pub mod Orders
+pub mod Chains
+pub mod Cut
+pub mod Short
+pub mod Search
+pub mod Readback

@@ -1,0 +1,15 @@
+pub mod Words
+pub mod Status
+pub mod Chosen
+pub mod Opening
+pub mod Fitting
+pub mod Rows
+pub mod Leading
+pub mod Middle
+pub mod Reading
+pub mod Change
+pub mod Computed
+pub mod Keeps
+pub mod Stretch
+pub mod Exact
+pub mod Growth

@@ -1,0 +1,5 @@
+pub mod Status
+pub mod Opening
+pub mod Change
+pub mod Growth
+pub mod Theorems

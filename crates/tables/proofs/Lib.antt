@@ -1,0 +1,5 @@
+pub mod Bits
+pub mod Between
+pub mod Places
+pub mod KindList
+pub mod Judging
