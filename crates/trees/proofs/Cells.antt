@@ -9,34 +9,15 @@ use lib.ListN.{length}
 use Rattle.std.proofs.shelf.Tests.{cases-lt}
 use Rattle.finds.specs.Trees.{Tree, grave, any, row, Trees, none, more, len, Good, Goods}
 use Rattle.finds.specs.Branches.{_+++_, revs}
+pub use Rattle.finds.proofs.Size.{some-nodes, nodes-plus, few-nodes, all-few-nodes}
 use Rattle.trees.specs.Cells.{nodes, all-nodes, size, sizes, set-of, kids, Cells, Body, Ats, Holds, Ends, Part, roots, Parts}
 
 -- ---- how many cells
-
-pub some-nodes : (t : Tree) → 1 ≤ nodes t
-some-nodes (grave g) = omega arith
-some-nodes (any ts) = omega arith
-some-nodes (row ts) = omega arith
-
--- A well-formed tree takes at most 2 n - 1 cells for n graves, since each branching has two branches or more.
-mutual
-  pub few-nodes : (t : Tree) → Good t → nodes t + 1 ≤ 2 * size t
-  few-nodes (grave g) h = omega arith
-  few-nodes (any ts) h = let z = all-few-nodes ts (h .1) in omega (arith, h .0)
-  few-nodes (row ts) h = let z = all-few-nodes ts (h .1) in omega (arith, h .0)
-
-  pub all-few-nodes : (ts : Trees) → Goods ts → all-nodes ts + len ts ≤ 2 * sizes ts
-  all-few-nodes none h = omega arith
-  all-few-nodes (more t ts) h = let y = few-nodes t (h .0) in let z = all-few-nodes ts (h .1) in omega arith
 
 -- Each branch takes a cell at least.
 pub len-nodes : (ts : Trees) → len ts ≤ all-nodes ts
 len-nodes none = omega arith
 len-nodes (more t ts) = let y = some-nodes t in let z = len-nodes ts in omega arith
-
-pub nodes-plus : (x y : Trees) → all-nodes (x +++ y) ≡ all-nodes x + all-nodes y
-nodes-plus none y = omega arith
-nodes-plus (more t x) y = let z = nodes-plus x y in omega arith
 
 pub kids-nodes : (t : Tree) → nodes t ≡ suc (all-nodes (kids t))
 kids-nodes (grave g) = refl

@@ -9,30 +9,7 @@ use lib.Dec.{eqb}
 use lib.ListN.{length, getD}
 use Rattle.finds.specs.Trees.{Tree, grave, any, row, Trees, none, more, Good, Goods}
 use Rattle.finds.specs.Counts.{countT, countTs}
-
--- How many cells a tree takes: one for each grave, and one for each place at which it branches.
-abbrev mutual
-  pub nodes : Tree → ℕ
-  nodes (grave g) = 1
-  nodes (any ts) = suc (all-nodes ts)
-  nodes (row ts) = suc (all-nodes ts)
-
-  -- How many cells the branches take together.
-  pub all-nodes : Trees → ℕ
-  all-nodes none = 0
-  all-nodes (more t ts) = nodes t + all-nodes ts
-
--- How many graves a tree has.
-abbrev mutual
-  pub size : Tree → ℕ
-  size (grave g) = 1
-  size (any ts) = sizes ts
-  size (row ts) = sizes ts
-
-  -- How many graves the branches have together.
-  pub sizes : Trees → ℕ
-  sizes none = 0
-  sizes (more t ts) = size t + sizes ts
+pub use Rattle.finds.specs.Size.{nodes, all-nodes, size, sizes}
 
 -- The graves of a tree as the bits of a number: bit g is set if grave g is in it.
 abbrev mutual
