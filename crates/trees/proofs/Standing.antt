@@ -22,16 +22,16 @@ stands-size {v} {n} {i} s =
     let b = few-graves (s .tree) (s .sound) in
     omega arith
 
--- The sort of a cell tells what tree it is the root of.
+-- A sort is at most 2, and tells what tree the cell is the root of.
+pub sort-low : (R : Cells) (i : ℕ) (t : Tree) → Body R i t → R .sort i ≤ 2
+sort-low R i (grave g) b = omega (arith, b .0)
+sort-low R i (any ts) b = omega (arith, b .0)
+sort-low R i (row ts) b = omega (arith, b .0)
+
 pub is-any : (R : Cells) (i : ℕ) (t : Tree) → Body R i t → R .sort i ≡ 1 → t ≡ any (kids t)
 is-any R i (grave g) b e = absurd (omega (arith, b .0))
 is-any R i (any ts) b e = refl
 is-any R i (row ts) b e = absurd (omega (arith, b .0))
-
-pub is-row : (R : Cells) (i : ℕ) (t : Tree) → Body R i t → R .sort i ≡ 2 → t ≡ row (kids t)
-is-row R i (grave g) b e = absurd (omega (arith, b .0))
-is-row R i (any ts) b e = absurd (omega (arith, b .0))
-is-row R i (row ts) b e = refl
 
 -- A cell that is no grave has the graves of its branches.
 pub kids-set : (R : Cells) (i : ℕ) (t : Tree) → Body R i t → 1 ≤ R .sort i → (R .set i ≡ sets-of (kids t)) × (size t ≡ sizes (kids t))

@@ -25,7 +25,7 @@ pub record Come (i c : ℕ) (t : Tree) (P : Trees → Trees → Type 0) : Type 0
 abbrev pub Walked : Cells → ℕ → ℕ → ℕ → (Tree → Trees → Trees → Type 0) → Type 0
 Walked R n i c P = (t : Tree) → Part R n i t → Come i c t (P t)
 
-come-nodes : {i c : ℕ} {t : Tree} {P : Trees → Trees → Type 0} → (w : Come i c t P) → i + nodes t ≡ c + all-nodes (w .rest)
+pub come-nodes : {i c : ℕ} {t : Tree} {P : Trees → Trees → Type 0} → (w : Come i c t P) → i + nodes t ≡ c + all-nodes (w .rest)
 come-nodes {t = t} w = let a = kids-nodes t in let b = ap all-nodes (w .is) ∙ nodes-plus (w .done) (w .rest) in let d = w .at in omega arith
 
 pub walk-start : (i : ℕ) (t : Tree) (P : Trees → Trees → Type 0) → P none (kids t) → Come i (i + 1) t P

@@ -5,3 +5,5 @@ pub mod Rows
 pub mod Walks
 pub mod Reading
 pub mod Starting
+pub mod Checks
+pub mod Answering

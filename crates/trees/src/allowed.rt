@@ -1,4 +1,5 @@
 // Whether a tree allows a row of graves.
+use crate::checked::is_tree;
 use crate::rows::Sort;
 use crate::rows::View;
 use crate::rows::sort_of;
@@ -12,9 +13,23 @@ ghost use lib.Count.{ones};
 ghost use lib.ListN.{length, getD};
 ghost use Rattle.std.specs.Orderings.{Decides};
 ghost use Rattle.finds.specs.Trees.{Tree, Allows};
+ghost use Rattle.trees.specs.Answering.{Answers};
 ghost use Rattle.trees.specs.Cells.{Part, Sound};
 ghost use Rattle.trees.specs.Reading.{begin-of};
 ghost use Rattle.trees.specs.Rows.{seen, Stands};
+
+// Whether the tree in the first `count` cells allows the row of graves; None if they hold no tree.
+pub fn allows(view: View, count: usize, row: &[u8]) -> Option<bool>
+    ensures { λ r. ⌜ Answers (view .entry) count (now (row .entry)) r ⌝ }
+{
+    if !is_tree(view, count) {
+        return None;
+    }
+    if row.len() != graves_at(view, count, 0) {
+        return Some(false);
+    }
+    Some(part_allows(view, count, 0, row))
+}
 
 // Whether the part with its root in cell i allows the row, which is as long as the part has graves.
 pub fn part_allows(view: View, count: usize, i: usize, row: &[u8]) -> bool

@@ -8,7 +8,6 @@ use lib.Count.{ones}
 use lib.ListN.{length, getD, take, drop}
 use Rattle.std.proofs.shelf.Lists.{length-take, length-drop}
 use Rattle.std.specs.Orderings.{Decides}
-use Rattle.std.proofs.shelf.Tests.{false≢true}
 use Rattle.finds.specs.Sets.{has}
 use Rattle.finds.specs.Trees.{Tree, grave, any, row, Allows}
 use Rattle.trees.specs.Cells.{size, kids, Sound, Cells, Body, Part}
@@ -17,21 +16,12 @@ use Rattle.trees.specs.Rows.{seen}
 use Rattle.trees.specs.Sorts.{code-of}
 use Rattle.trees.proofs.Allowing.{grave-allows}
 use Rattle.trees.proofs.Cells.{body-set}
+use Rattle.trees.proofs.Deciding.{so, not-so, denied}
 use Rattle.trees.proofs.Picking.{Picked, picked-start, pick, pick-size, picked-more, picked-not, picked-gone, picked-none, picked-end}
-use Rattle.trees.proofs.Standing.{stands-size, part-size, kids-set, kids-size, kids-room, is-any}
+use Rattle.trees.proofs.Standing.{stands-size, part-size, kids-set, kids-size, kids-room, sort-low, is-any}
 use Rattle.trees.proofs.Taking.{Taken, taken-start, taken-more, taken-not, taken-end, way}
 use Rattle.trees.proofs.Walking.{walk-start, walk-next, walk-more, walk-end, walk-stands, next-sound, with-part, with-sound}
 use Rattle.trees.proofs.allowed.+any_allows+part_allows+row_allows.Needs as need
-
--- A test that came out, and what it decides.
-so : {P : Type 0} → P → Decides true P
-so p = ((λ e. p), (λ q. refl))
-
-not-so : {P : Type 0} → (P → ⊥) → Decides false P
-not-so n = ((λ e. absurd (false≢true e)), (λ p. absurd (n p)))
-
-denied : {P : Type 0} → Decides false P → P → ⊥
-denied d p = false≢true (d .1 p)
 
 -- ---- branches in any order
 
@@ -166,12 +156,6 @@ row-allows-returns t c = λ u p s.
 
 pub part-allows-index-row-0 : need.part-allows-index-row-0
 part-allows-index-row-0 t c = let s = stands-size (c .pre .stands) in omega (arith, c .pre .long)
-
--- A sort is at most 2.
-sort-low : (R : Cells) (i : ℕ) (t : Tree) → Body R i t → R .sort i ≤ 2
-sort-low R i (grave g) b = omega (arith, b .0)
-sort-low R i (any ts) b = omega (arith, b .0)
-sort-low R i (row ts) b = omega (arith, b .0)
 
 -- A grave allows itself alone.
 at-grave : (R : Cells) (n i : ℕ) (t : Tree) (l : List ℕ) (r : Bool) → Part R n i t → Sound t → R .sort i ≡ 0 → length l ≡ ones (R .set i) → r ≡ has (R .set i) (getD l 0 0) → Decides r (Allows t l)
