@@ -80,13 +80,8 @@ or-assoc a b c = bit-ext (bitOr (bitOr a b) c) (bitOr a (bitOr b c))
 
 -- ---- how many ones
 
-pub ones-and : (s m : ℕ) → ones (bitAnd s m) ≡ min (s % 2) (m % 2) + ones (bitAnd (s / 2) (m / 2))
+ones-and : (s m : ℕ) → ones (bitAnd s m) ≡ min (s % 2) (m % 2) + ones (bitAnd (s / 2) (m / 2))
 ones-and s m = let h = and-halves s m in let e = ones-step (bitAnd s m) in let z = ap ones (h .0) in omega arith
-
--- Under a mask there are no more ones.
-pub ones-less : (s m : ℕ) → ones (bitAnd s m) ≤ ones s
-ones-less = bin-ind (λ (n : ℕ). (m : ℕ) → ones (bitAnd n m) ≤ ones n) (λ m. omega arith)
-    (λ n ih m. let r = ih (m / 2) in let a = ones-and n m in let e = ones-step n in omega arith)
 
 -- The ones of two numbers without a common bit add up, under a mask too.
 pub ones-plus : (a c : ℕ) → ((g : ℕ) → bit g a + bit g c ≤ 1) → ones (bitOr a c) ≡ ones a + ones c

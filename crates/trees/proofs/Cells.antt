@@ -1,16 +1,16 @@
 -- Trees in rows of cells: how many cells there are, where parents and ends lie, and that a tree can be moved, cut and joined.
 use mathlib.Core.Path.{_≡_, refl, sym, ap, subst, _∙_}
-use mathlib.Core.Logic.{_⊎_, inl, inr, ⊎-elim}
+use mathlib.Core.Logic.{_⊎_, inl, inr}
 use mathlib.Core.List.{List, [], _∷_, _++_, reverse, reverse-cons}
-use Prim.Native.Nat.{ℕ, suc, _+_, _*_, _≤_, _<_}
+use Prim.Native.Nat.{ℕ, suc, _+_, _≤_, _<_}
 use native.Mathlib.Omega.{arith}
 use native.Mathlib.Nat.{add-assoc, add-zero}
 use lib.ListN.{length}
 use Rattle.std.proofs.shelf.Tests.{cases-lt}
-use Rattle.finds.specs.Trees.{Tree, grave, any, row, Trees, none, more, len, Good, Goods}
+use Rattle.finds.specs.Trees.{Tree, grave, any, row, Trees, none, more, len}
 use Rattle.finds.specs.Branches.{_+++_, revs}
 pub use Rattle.finds.proofs.Size.{some-nodes, nodes-plus, few-nodes, all-few-nodes}
-use Rattle.trees.specs.Cells.{nodes, all-nodes, size, sizes, set-of, kids, Cells, Body, Ats, Holds, Ends, Part, roots, Parts}
+use Rattle.trees.specs.Cells.{nodes, all-nodes, set-of, kids, Cells, Body, Ats, Holds, Ends, Part, roots, Parts}
 
 -- ---- how many cells
 

@@ -1,8 +1,8 @@
 -- Rows checked for a tree, branch by branch.
 use mathlib.Core.Path.{_≡_, refl, sym, ap, subst, _∙_}
-use mathlib.Core.Logic.{_⊎_, inl, inr, _≢_}
+use mathlib.Core.Logic.{_⊎_, inl, inr}
 use mathlib.Core.Bool.{Bool, true, false}
-use Prim.Native.Nat.{ℕ, zero, suc, _+_, _/_, _%_, _^_, _≤_, _<_, min}
+use Prim.Native.Nat.{ℕ, zero, suc, _+_, _/_, _%_, _^_, _≤_, _<_}
 use native.Mathlib.Omega.{arith}
 use native.Mathlib.Nat.{pow-suc}
 use lib.Arith.{bin-ind}
@@ -14,7 +14,7 @@ use Rattle.std.proofs.shelf.Tests.{cases-lt, ne-eqb}
 use Rattle.finds.specs.Branches.{_+++_}
 use Rattle.finds.specs.Counts.{hit, countT, countTs}
 use Rattle.finds.specs.Sets.{bit}
-use Rattle.finds.specs.Trees.{Tree, grave, any, row, Trees, none, more, len, Good, Goods}
+use Rattle.finds.specs.Trees.{Tree, grave, any, row, Trees, none, more, len, Good}
 use Rattle.finds.proofs.Branches.{len-plus, goods-plus}
 use Rattle.finds.proofs.Counts.{countTs-plus}
 use Rattle.trees.specs.Cells.{nodes, all-nodes, size, set-of, sets-of, kids, Sound, Sounds, Cells, Body, Ats, Ends, Part, Holds}
@@ -22,8 +22,8 @@ use Rattle.trees.specs.Checks.{Checked, Tree-in}
 use Rattle.trees.specs.Rows.{seen, Stands}
 use Rattle.trees.specs.declared.rows.View.{View}
 use Rattle.trees.proofs.Bits.{bit-and, bit-zero, bit-ext, ones-none}
-use Rattle.trees.proofs.Cells.{some-nodes, len-nodes, nodes-plus, kids-nodes, kids-ats, body-set, ats-cut, ats-at, ats-plus, holds-part}
-use Rattle.trees.proofs.Sets.{sound-kids, sounds-cut, bit-set, bit-sets, sets-more, few-cells}
+use Rattle.trees.proofs.Cells.{some-nodes, nodes-plus, kids-ats, body-set, ats-cut, ats-at, ats-plus, holds-part}
+use Rattle.trees.proofs.Sets.{sound-kids, bit-set, bit-sets, sets-more, few-cells}
 use Rattle.trees.proofs.Standing.{part-size, kids-set}
 use Rattle.trees.proofs.Walking.{Come, Next, come-nodes, walk-start, walk-next, walk-more, walk-end, next-sound}
 

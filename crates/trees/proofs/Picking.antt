@@ -1,8 +1,8 @@
 -- Branches in any order read against a row of graves, branch by branch: the first grave of what is left of the row picks the branch that comes next.
 use mathlib.Core.Path.{_≡_, refl, sym, ap, subst, _∙_}
 use mathlib.Core.Bool.{Bool, true, false}
-use mathlib.Core.List.{List, []}
-use Prim.Native.Nat.{ℕ, suc, _+_, _≤_, _<_, min, max}
+use mathlib.Core.List.{List}
+use Prim.Native.Nat.{ℕ, _+_, _≤_, _<_}
 use native.Mathlib.Omega.{arith}
 use native.Mathlib.Nat.{add-zero}
 use lib.Bits.{bitAnd, bitOr, bitXor, xor-assoc, xor-self, xor-zero-r, xor-disjoint, or-disjoint}
@@ -11,7 +11,7 @@ use lib.ListN.{length, getD, take, drop}
 use Rattle.std.proofs.shelf.Lists.{getD-drop, drop-all, drop-drop, length-drop}
 use Rattle.std.proofs.shelf.Tests.{eqb-true, eqb-false}
 use Rattle.finds.specs.Branches.{_+++_}
-use Rattle.finds.specs.Counts.{count, countT, countTs}
+use Rattle.finds.specs.Counts.{countT, countTs}
 use Rattle.finds.specs.Sets.{bit, has}
 use Rattle.finds.specs.Trees.{Tree, any, Trees, none, more, Allows, mixed, nil, Mixed, no-more}
 use Rattle.finds.proofs.Branches.{Alls, plus-assoc, mixed-refl, mixed-trans, mixed-plus, mixed-mid, mixed-out, mixed-alls, alls-right, put-mid, put-around}
@@ -19,7 +19,7 @@ use Rattle.finds.proofs.Counts.{countTs-plus, mixed-count, allows-count}
 use Rattle.finds.proofs.Start.{count-at}
 use Rattle.trees.specs.Cells.{size, sizes, set-of, sets-of, kids, Sound}
 use Rattle.trees.specs.Walks.{Branch-with}
-use Rattle.trees.proofs.Bits.{bit-low, bit-zero, bit-and, bit-or, bit-ext}
+use Rattle.trees.proofs.Bits.{bit-zero, bit-and, bit-or, bit-ext}
 use Rattle.trees.proofs.Sets.{sound-kids, bit-set, bit-sets}
 use Rattle.trees.proofs.Allowing.{goods-sizes, sizes-plus, any-to, any-from}
 

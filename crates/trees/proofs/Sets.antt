@@ -2,7 +2,7 @@
 use mathlib.Core.Path.{_≡_, refl, sym, ap, _∙_}
 use mathlib.Core.Logic.{_⊎_, inl, inr}
 use mathlib.Core.Bool.{Bool, true, false}
-use Prim.Native.Nat.{ℕ, suc, _+_, _*_, _^_, _≤_, _<_, min, max}
+use Prim.Native.Nat.{ℕ, _+_, _^_, _≤_, _<_, min}
 use native.Mathlib.Omega.{arith}
 use lib.Bits.{bitAnd, bitOr, or-lt, or-comm, and-self}
 use lib.Count.{ones, ones-le}
@@ -10,14 +10,14 @@ use lib.Dec.{eqb}
 use lib.Pow.{pow-lt}
 use Rattle.std.proofs.shelf.Tests.{cases-lt}
 use Rattle.std.proofs.shelf.Ways.{eqb-tells}
-use Rattle.finds.specs.Trees.{Tree, grave, any, row, Trees, none, more, len, Good, Goods}
+use Rattle.finds.specs.Trees.{Tree, grave, any, row, Trees, none, more, len, Goods}
 use Rattle.finds.specs.Branches.{_+++_}
 use Rattle.finds.specs.Counts.{hit, countT, countTs}
 use Rattle.finds.specs.Sets.{bit}
 use Rattle.finds.proofs.Counts.{countTs-plus}
 use Rattle.trees.specs.Cells.{nodes, size, sizes, set-of, sets-of, kids, Sound, Sounds}
 use Rattle.trees.specs.Masks.{Mask}
-use Rattle.trees.proofs.Bits.{bit-low, bit-zero, bit-or, bit-pow, bit-pow-other, bit-ext, or-assoc, ones-none, ones-plus, ones-or, ones-pow}
+use Rattle.trees.proofs.Bits.{bit-zero, bit-or, bit-pow, bit-pow-other, bit-ext, or-assoc, ones-none, ones-plus, ones-or, ones-pow}
 use Rattle.trees.proofs.Cells.{few-nodes, all-few-nodes, len-nodes}
 
 -- ---- sound trees and their branches

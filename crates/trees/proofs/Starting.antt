@@ -1,15 +1,22 @@
 -- The tree without kinds, written cell by cell.
 use mathlib.Core.Path.{_≡_, refl, sym, ap, subst, _∙_}
+use mathlib.Core.Logic.{⊎-elim}
+use mathlib.Core.Bool.{true}
 use Prim.Native.Nat.{ℕ, zero, suc, _+_, _^_, _≤_, _<_}
 use native.Mathlib.Omega.{arith}
 use native.Mathlib.Nat.{zero-add}
 use native.Mathlib.Numerals.{add-one}
 use lib.Bits.{bitOr}
+use lib.Dec.{eqb}
 use lib.ListN.{drop}
 use Rattle.std.proofs.shelf.Lists.{drop-set-lt}
+use Rattle.std.proofs.shelf.Tests.{cases-lt}
 use Rattle.finds.specs.Branches.{_+++_}
-use Rattle.finds.specs.Trees.{grave, any, none, more, len, graves-from, start}
-use Rattle.trees.specs.Cells.{all-nodes, sets-of, Lent, held, shortest, Ats, Holds}
+use Rattle.finds.specs.Finds.{Order}
+use Rattle.finds.specs.Trees.{grave, any, none, more, Allows, len, graves-from, start}
+use Rattle.finds.proofs.Counts.{allows-count}
+use Rattle.finds.proofs.Start.{Whole, start-good, row-start, start-whole, fill, has-row}
+use Rattle.trees.specs.Cells.{all-nodes, sets-of, Sound, Lent, held, shortest, Ats, Holds}
 use Rattle.trees.specs.Starting.{Kept, Graves}
 use Rattle.trees.proofs.Cells.{ats-at, ats-plus}
 use Rattle.trees.proofs.Sets.{sets-more}
@@ -71,3 +78,20 @@ graves-all {n} {all} {r = r} {after = after} two h w l = (
       body = (x-is .sort-is, x-is .set-is ∙ h .set-is, ats-kept (held r) (held after) 1 0 0 (graves-from 0 n) (λ x a b. x-is .others x (omega arith)) (h .lie));
       many = omega (arith, from-many 0 n .0);
     }
+
+-- The tree without kinds is sound: it has each grave as often as the row of an order has it.
+pub start-sound : (n : ℕ) → 0 < n → n ≤ 64 → Sound (start n)
+start-sound n some few = record {
+  good = start-good n some;
+  once = λ g. let e = allows-count (eqb g) true a in ⊎-elim (λ l. omega (arith, w .once g l)) (λ l. omega (arith, w .never g l)) (cases-lt g n);
+  small = λ g l. sym (allows-count (eqb g) true a) ∙ w .never g (omega arith);
+}
+  where
+    o : Order n
+    o = record { place = λ g. g; within = λ g l. l; apart = λ g h a b e. e }
+
+    a : Allows (start n) (fill o n)
+    a = row-start n some o (fill o n) (has-row o)
+
+    w : Whole n (fill o n)
+    w = start-whole n some (fill o n) a

@@ -2,14 +2,14 @@
 use mathlib.Core.Path.{_≡_, sym, ap, _∙_}
 use mathlib.Core.Logic.{_≢_}
 use mathlib.Core.List.{List}
-use Prim.Native.Nat.{ℕ, suc, _+_, _≤_, _<_}
+use Prim.Native.Nat.{ℕ, _+_, _≤_, _<_}
 use native.Mathlib.Omega.{arith}
 use lib.ListN.{length, getD, drop, set}
 use Rattle.std.proofs.shelf.Lists.{getD-set-same, getD-set-other, drop-set-lt, drop-drop}
-use Rattle.finds.specs.Trees.{Tree, Trees}
-use Rattle.trees.specs.Cells.{nodes, all-nodes, Cells, Lent, held, shortest, Body, Ats}
+use Rattle.finds.specs.Trees.{Trees}
+use Rattle.trees.specs.Cells.{all-nodes, Cells, Lent, held, shortest, Ats}
 use Rattle.trees.specs.Starting.{Kept}
-use Rattle.trees.proofs.Cells.{Moved, body-moved, ats-moved}
+use Rattle.trees.proofs.Cells.{Moved, ats-moved}
 
 -- Cell x holds the same in R and in S.
 pub record Same (R S : Cells) (x : ℕ) : Type 0 where
@@ -24,9 +24,6 @@ unmoved R S lo hi f x y a b e =
     let z : y ≡ x = omega arith in
     let s = f x a b in
     (ap (S .sort) z ∙ s .sort, ap (S .set) z ∙ s .graves, ap (S .place) z ∙ s .place, (let p = ap (S .parent) z ∙ s .parent in omega arith))
-
-pub body-kept : (R S : Cells) (i : ℕ) (t : Tree) → S .sort i ≡ R .sort i → S .set i ≡ R .set i → ((x : ℕ) → suc i ≤ x → x < i + nodes t → Same R S x) → Body R i t → Body S i t
-body-kept R S i t a b f = body-moved R S 0 0 i i t (omega arith) a b (unmoved R S (suc i) (i + nodes t) f)
 
 pub ats-kept : (R S : Cells) (i p q : ℕ) (ts : Trees) → ((x : ℕ) → i ≤ x → x < i + all-nodes ts → Same R S x) → Ats R i p q ts → Ats S i p q ts
 ats-kept R S i p q ts f = ats-moved R S 0 0 i i p p q ts (omega arith) (omega arith) (unmoved R S i (i + all-nodes ts) f)

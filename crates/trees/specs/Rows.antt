@@ -1,6 +1,5 @@
 -- What lent rows hold.
-use mathlib.Core.Path.{_≡_}
-use Prim.Native.Nat.{ℕ, _+_, _≤_, _<_}
+use Prim.Native.Nat.{ℕ, _≤_, _<_}
 use lib.ListN.{length}
 use denote.Ref.{now}
 use Rattle.finds.specs.Trees.{Tree}

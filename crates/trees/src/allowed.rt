@@ -10,7 +10,7 @@ use crate::walk::next_after;
 ghost use mathlib.Core.Path.{_≡_};
 ghost use Prim.Native.Nat.{_+_, _≤_};
 ghost use lib.Count.{ones};
-ghost use lib.ListN.{length, getD};
+ghost use lib.ListN.{length};
 ghost use Rattle.std.specs.Orderings.{Decides};
 ghost use Rattle.finds.specs.Trees.{Tree, Allows};
 ghost use Rattle.trees.specs.Answering.{Answers};

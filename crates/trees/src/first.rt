@@ -2,7 +2,6 @@
 use crate::rows::Cell;
 use crate::rows::Sort;
 use crate::rows::put;
-ghost use mathlib.Core.Path.{_≡_};
 ghost use Prim.Native.Nat.{_<_, _≤_};
 ghost use Rattle.trees.specs.Cells.{lent, shortest};
 ghost use Rattle.trees.specs.Starting.{Starts, Graves};

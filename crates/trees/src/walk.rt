@@ -1,7 +1,7 @@
 // Walking a tree in its rows.
 use crate::rows::View;
 ghost use mathlib.Core.Path.{_≡_};
-ghost use Prim.Native.Nat.{ℕ, _+_, _≤_, _<_};
+ghost use Prim.Native.Nat.{_+_, _≤_, _<_};
 ghost use lib.Count.{ones};
 ghost use lib.ListN.{length, drop};
 ghost use Rattle.std.specs.Options.{Cases as BySome};

@@ -1,4 +1,4 @@
-use mathlib.Core.Path.{_≡_, refl, sym, _∙_}
+use mathlib.Core.Path.{refl, sym, _∙_}
 use Rattle.trees.specs.Rows.{seen}
 use Rattle.trees.proofs.Allowing.{allows-length}
 use Rattle.trees.proofs.Cells.{holds-part}

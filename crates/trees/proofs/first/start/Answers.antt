@@ -1,4 +1,3 @@
-use native.Mathlib.Omega.{arith}
 use borrow.Author.Needs.{needs}
 use Rattle.trees.proofs.Starting.{graves-all}
 use Rattle.trees.proofs.first.start.Needs as need

@@ -1,4 +1,4 @@
-use mathlib.Core.Path.{_≡_, refl, _∙_}
+use mathlib.Core.Path.{refl}
 use native.Mathlib.Omega.{arith}
 use Rattle.trees.proofs.Checking.{tree-in-stands, tree-in-size}
 use Rattle.trees.proofs.front.front.Needs as need
