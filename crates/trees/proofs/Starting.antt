@@ -2,7 +2,7 @@
 use mathlib.Core.Path.{_≡_, refl, sym, ap, subst, _∙_}
 use mathlib.Core.Logic.{⊎-elim}
 use mathlib.Core.Bool.{true}
-use Prim.Native.Nat.{ℕ, zero, suc, _+_, _^_, _≤_, _<_}
+use Prim.Native.Nat.{ℕ, zero, suc, _+_, _≤_, _<_}
 use native.Mathlib.Omega.{arith}
 use native.Mathlib.Nat.{zero-add}
 use native.Mathlib.Numerals.{add-one}
@@ -17,7 +17,9 @@ use Rattle.finds.specs.Trees.{grave, any, none, more, Allows, len, graves-from,
 use Rattle.finds.proofs.Counts.{allows-count}
 use Rattle.finds.proofs.Start.{Whole, start-good, row-start, start-whole, fill, has-row}
 use Rattle.trees.specs.Cells.{all-nodes, sets-of, Sound, Lent, held, shortest, Ats, Holds}
-use Rattle.trees.specs.Starting.{Kept, Graves}
+use Rattle.trees.specs.Sorts.{code-of}
+use Rattle.trees.specs.Starting.{Kept, Graves, Grave-cell}
+use Rattle.trees.specs.declared.rows.Cell.{Cell}
 use Rattle.trees.proofs.Cells.{ats-at, ats-plus}
 use Rattle.trees.proofs.Sets.{sets-more}
 use Rattle.trees.proofs.Writing.{ats-kept, Put, Written, written, put-kept}
@@ -34,18 +36,19 @@ from-next : (n : ℕ) → graves-from 0 (n + 1) ≡ graves-from 0 n +++ more (gr
 from-next n = ap (graves-from 0) (add-one n) ∙ from-more 0 n ∙ ap (λ (x : ℕ). graves-from 0 n +++ more (grave x) none) (zero-add n)
 
 -- One grave more is written.
-pub graves-more : {n all bits : ℕ} {before r after : Lent} → Graves n all before r → Put (n + 1) 0 0 n bits r after → n + 1 < shortest r → bits ≡ 2 ^ n → Graves (n + 1) (bitOr all bits) before after
-graves-more {n} {all} {bits} {r = r} {after = after} h w l e = record {
+pub graves-more : {n all : ℕ} {cell : Cell} {before r after : Lent} → Graves n all before r → Grave-cell n cell → Put (n + 1) (cell .parent) (code-of (cell .sort)) (cell .place) (cell .graves) r after → n + 1 < shortest r → Graves (n + 1) (bitOr all (cell .graves)) before after
+graves-more {n} {all} {cell} {r = r} {after = after} h c w l = record {
   lie =
       subst (Ats (held after) 1 0 0) (sym (from-next n))
       (ats-plus (held after) 1 0 0 (graves-from 0 n) (more (grave n) none)
       (ats-kept (held r) (held after) 1 0 0 (graves-from 0 n) (λ x a b. x-is .others x (omega (arith, many .0))) (h .lie))
-      (ats-at (held after) 0 (more (grave n) none) (omega (arith, many .0)) (omega (arith, many .1)) (x-is .parent-is, x-is .place-is, (x-is .sort-is, x-is .set-is ∙ e), tt)));
-  set-is = ap (λ (x : ℕ). bitOr x bits) (h .set-is) ∙ ap (bitOr (sets-of (graves-from 0 n))) e ∙ sym (ap sets-of (from-next n) ∙ sets-more (graves-from 0 n) (grave n));
+      (ats-at (held after) 0 (more (grave n) none) (omega (arith, many .0)) (omega (arith, many .1))
+      (x-is .parent-is ∙ c .parent, x-is .place-is ∙ c .place, (x-is .sort-is ∙ c .sort, x-is .set-is ∙ c .graves), tt)));
+  set-is = ap (λ (x : ℕ). bitOr x (cell .graves)) (h .set-is) ∙ ap (bitOr (sets-of (graves-from 0 n))) (c .graves) ∙ sym (ap sets-of (from-next n) ∙ sets-more (graves-from 0 n) (grave n));
   kept = put-kept (n + 1) w (h .kept);
 }
   where
-    x-is : Written (held r) (held after) (n + 1) 0 0 n bits
+    x-is : Written (held r) (held after) (n + 1) (cell .parent) (code-of (cell .sort)) (cell .place) (cell .graves)
     x-is = written w l
 
     many : (all-nodes (graves-from 0 n) ≡ n) × (len (graves-from 0 n) ≡ n)

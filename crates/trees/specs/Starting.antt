@@ -1,12 +1,14 @@
 -- What writing the tree without kinds answers, and what it leaves in the rows.
 use mathlib.Core.Path.{_≡_}
 use mathlib.Core.Logic.{_⊎_}
-use Prim.Native.Nat.{ℕ, _+_, _-_, _*_, _<_}
+use Prim.Native.Nat.{ℕ, _+_, _-_, _*_, _^_, _<_}
 use lib.ListN.{drop}
 use Rattle.std.specs.declared.option.Option.{Option}
 use Rattle.std.specs.declared.option.Option.the-variants.{Some, None}
 use Rattle.finds.specs.Trees.{graves-from, start}
 use Rattle.trees.specs.Cells.{sets-of, Lent, held, shortest, Ats, Holds}
+use Rattle.trees.specs.Sorts.{code-of}
+use Rattle.trees.specs.declared.rows.Cell.{Cell}
 
 -- From cell n on the rows are as before.
 pub record Kept (n : ℕ) (before after : Lent) : Type 0 where
@@ -29,3 +31,10 @@ pub record Graves (n all : ℕ) (before after : Lent) : Type 0 where
   pub lie : Ats (held after) 1 0 0 (graves-from 0 n)
   pub set-is : all ≡ sets-of (graves-from 0 n)
   pub kept : Kept (n + 1) before after
+
+-- The cell holds the grave g, as a branch of cell 0 in the place g.
+pub record Grave-cell (g : ℕ) (c : Cell) : Type 0 where
+  pub parent : c .parent ≡ 0
+  pub sort : code-of (c .sort) ≡ 0
+  pub place : c .place ≡ g
+  pub graves : c .graves ≡ 2 ^ g

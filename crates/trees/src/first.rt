@@ -4,7 +4,7 @@ use crate::rows::Sort;
 use crate::rows::put;
 ghost use Prim.Native.Nat.{_<_, _≤_};
 ghost use Rattle.trees.specs.Cells.{lent, shortest};
-ghost use Rattle.trees.specs.Starting.{Starts, Graves};
+ghost use Rattle.trees.specs.Starting.{Starts, Graves, Grave-cell};
 
 // Writes the tree of n graves without kinds into the rows, and answers how many cells it has.
 // None, and nothing changed, if there are no graves or more than 64, or a row has fewer than 2 n - 1 cells.
@@ -25,19 +25,7 @@ pub fn start(
         return None;
     }
     if n == 1 {
-        put(
-            parents,
-            sorts,
-            places,
-            sets,
-            0,
-            Cell {
-                parent: 0,
-                sort: Sort::Grave,
-                place: 0,
-                graves: 1,
-            },
-        );
+        put(parents, sorts, places, sets, 0, grave_cell(0));
         return Some(1);
     }
     let graves = put_graves(n, parents, sorts, places, sets);
@@ -71,20 +59,22 @@ fn put_graves(
 {
     let mut all = 0;
     for g in 0..n {
-        put(
-            parents,
-            sorts,
-            places,
-            sets,
-            g as usize + 1,
-            Cell {
-                parent: 0,
-                sort: Sort::Grave,
-                place: g,
-                graves: 1 << g,
-            },
-        );
-        all |= 1 << g;
+        let cell = grave_cell(g);
+        put(parents, sorts, places, sets, g as usize + 1, cell);
+        all |= cell.graves;
     }
     all
+}
+
+// The cell of a grave as a branch of cell 0, in the place of its number.
+fn grave_cell(g: u8) -> Cell
+    requires { ⌜ g < 64 ⌝ }
+    ensures { λ r. ⌜ Grave-cell g r ⌝ }
+{
+    Cell {
+        parent: 0,
+        sort: Sort::Grave,
+        place: g,
+        graves: 1 << g,
+    }
 }
