@@ -117,7 +117,7 @@ reads-from true t ts at l e h r =
 
 -- ---- which way a row is read
 
--- The first grave of a row of graves is in what allows a front of the row.
+-- The first grave of a row of graves is in each front of it that is not empty.
 first-count : (n : ℕ) (l : List ℕ) → 0 < n → 0 < length l → 1 ≤ count (eqb (getD l 0 0)) true (take n l)
 first-count n l h b = count-at (getD l 0 0) (take n l) 0 0 (let e = length-take n l in omega arith) (getD-take n l 0 0 h)
 

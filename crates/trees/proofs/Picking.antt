@@ -141,7 +141,7 @@ module _ {t : Tree} {l : List ℕ} {left at : ℕ} (s : Sound t) (p : Picked t l
       go none e a = p .to (subst (λ (z : Trees). Allows (any z) (drop at l)) (sym e) (subst (Allows (any none)) (sym (drop-all at l h)) (mixed no-more nil)))
       go (more u w) e a = absurd (let c = ap sizes e in let d = p .long in omega (arith, a .0))
 
--- Nor does a grave that no branch has.
+-- A grave that no branch has stops it too.
 pub picked-none : (t : Tree) (l : List ℕ) (at : ℕ) → at < length l → bit (getD l at 0) (sets-of (kids t)) ≡ 0 → Allows (any (kids t)) l → ⊥
 picked-none t l at h e a =
     let g = getD l at 0 in

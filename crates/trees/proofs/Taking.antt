@@ -45,7 +45,7 @@ taken-end {b} {at} {l} {t} k = k .to (go b)
     go false = rw (drop-all at l (let e = k .long in omega arith)) nil
     go true = let e : length l - at ≡ 0 = (let e = k .long in omega arith) in rw e nil
 
--- The first grave of the row tells whether it is turned round: it is in the first branch, or it is.
+-- The first grave of the row tells whether it is turned round: it is if that grave is not in the first branch.
 pub way : (R : Cells) (i : ℕ) (t : Tree) (l : List ℕ) (b : Bool) → Body R i t → R .sort i ≡ 2 → Sound t → 0 < length l → has (R .set (i + 1)) (getD l 0 0) ≡ not b →
     (Allows t l → Reads b (kids t) l) × (Reads b (kids t) l → Allows t l)
 way R i (grave g) l b body e s some h = absurd (omega (arith, body .0))

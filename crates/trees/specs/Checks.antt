@@ -15,7 +15,7 @@ pub record Tree-in (v : View) (n : ℕ) : Type 0 where
   pub holds : Holds (seen v) n tree
   pub sound : Sound tree
 
--- From cell i on lies a sound tree up to the cell e, and no other can be a part there.
+-- From cell i on lies a sound tree that ends before the cell e, and each sound tree that is a part there ends there.
 pub record Checked (R : Cells) (n i e : ℕ) : Type 0 where
   pub within : (i < e) × (e ≤ n)
   pub tree : Tree
