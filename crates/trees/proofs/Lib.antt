@@ -1,0 +1,13 @@
+pub mod Cells
+pub mod Bits
+pub mod Sets
+pub mod Deciding
+pub mod Standing
+pub mod Walking
+pub mod Allowing
+pub mod Picking
+pub mod Taking
+pub mod Writing
+pub mod Starting
+pub mod Checking
+pub mod Leaves
