@@ -18,7 +18,7 @@ use Rattle.finds.proofs.Counts.{allows-count}
 use Rattle.finds.proofs.Start.{Whole, start-good, row-start, start-whole, fill, has-row}
 use Rattle.trees.specs.Cells.{all-nodes, sets-of, Sound, Lent, held, shortest, Ats, Holds}
 use Rattle.trees.specs.Sorts.{code-of}
-use Rattle.trees.specs.Starting.{Kept, Graves, Grave-cell}
+use Rattle.trees.specs.Starting.{Same-from, Graves, Grave-cell}
 use Rattle.trees.specs.declared.rows.Cell.{Cell}
 use Rattle.trees.proofs.Cells.{ats-at, ats-plus}
 use Rattle.trees.proofs.Sets.{sets-more}
@@ -60,7 +60,7 @@ start-any (suc zero) h = absurd (omega arith)
 start-any (suc (suc n)) h = refl
 
 -- The graves are written, and the cell above them too: that is the tree without kinds.
-pub graves-all : {n all : ℕ} {before r after : Lent} → 2 ≤ n → Graves n all before r → Put 0 0 1 0 all r after → 0 < shortest r → Holds (held after) (n + 1) (start n) × Kept (n + 1) before after
+pub graves-all : {n all : ℕ} {before r after : Lent} → 2 ≤ n → Graves n all before r → Put 0 0 1 0 all r after → 0 < shortest r → Holds (held after) (n + 1) (start n) × Same-from (n + 1) before after
 graves-all {n} {all} {r = r} {after = after} two h w l = (
   subst (Holds (held after) (n + 1)) (sym (start-any n two)) whole,
   record {

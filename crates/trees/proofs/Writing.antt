@@ -8,7 +8,7 @@ use lib.ListN.{length, getD, drop, set}
 use Rattle.std.proofs.shelf.Lists.{getD-set-same, getD-set-other, drop-set-lt, drop-drop}
 use Rattle.finds.specs.Trees.{Trees}
 use Rattle.trees.specs.Cells.{all-nodes, Cells, Lent, held, shortest, Ats}
-use Rattle.trees.specs.Starting.{Kept}
+use Rattle.trees.specs.Starting.{Same-from}
 use Rattle.trees.proofs.Cells.{Moved, ats-moved}
 
 -- Cell x holds the same in R and in S.
@@ -62,7 +62,7 @@ written {i} {p} {s} {q} {m} {before = r} w l = record {
 pub kept-more : (m v : ℕ) (xs old : List ℕ) → drop m xs ≡ drop m old → drop (m + 1) (set xs m v) ≡ drop (m + 1) old
 kept-more m v xs old e = drop-set-lt (m + 1) xs m v (omega arith) ∙ sym (drop-drop 1 m xs) ∙ ap (drop 1) e ∙ drop-drop 1 m old
 
-pub put-kept : {p s q m : ℕ} (n : ℕ) {before r after : Lent} → Put n p s q m r after → Kept n before r → Kept (n + 1) before after
+pub put-kept : {p s q m : ℕ} (n : ℕ) {before r after : Lent} → Put n p s q m r after → Same-from n before r → Same-from (n + 1) before after
 put-kept {p} {s} {q} {m} n {before = b} {r = r} w k = record {
   parents = ap (drop (n + 1)) (w .parents) ∙ kept-more n p (r .parents) (b .parents) (k .parents);
   sorts = ap (drop (n + 1)) (w .sorts) ∙ kept-more n s (r .sorts) (b .sorts) (k .sorts);

@@ -11,7 +11,7 @@ use Rattle.trees.specs.Sorts.{code-of}
 use Rattle.trees.specs.declared.rows.Cell.{Cell}
 
 -- From cell n on the rows are as before.
-pub record Kept (n : ℕ) (before after : Lent) : Type 0 where
+pub record Same-from (n : ℕ) (before after : Lent) : Type 0 where
   pub parents : drop n (after .parents) ≡ drop n (before .parents)
   pub sorts : drop n (after .sorts) ≡ drop n (before .sorts)
   pub places : drop n (after .places) ≡ drop n (before .places)
@@ -24,13 +24,13 @@ Refuses n room = (n ≡ 0) ⊎ ((64 < n) ⊎ (room < 2 * n - 1))
 -- Refused, and all is as before; or the tree without kinds stands in the first cells, and the others are as before.
 abbrev pub Starts : ℕ → Lent → Lent → Option ℕ → Type 0
 Starts n before after None = Refuses n (shortest before) × (after ≡ before)
-Starts n before after (Some count) = (Refuses n (shortest before) → ⊥) × Holds (held after) count (start n) × Kept count before after
+Starts n before after (Some count) = (Refuses n (shortest before) → ⊥) × Holds (held after) count (start n) × Same-from count before after
 
 -- The first n graves, whose set is `all`, stand in the cells from 1 on, as branches of cell 0; the cells behind them are as before.
 pub record Graves (n all : ℕ) (before after : Lent) : Type 0 where
   pub lie : Ats (held after) 1 0 0 (graves-from 0 n)
   pub set-is : all ≡ sets-of (graves-from 0 n)
-  pub kept : Kept (n + 1) before after
+  pub kept : Same-from (n + 1) before after
 
 -- The cell holds the grave g, as a branch of cell 0 in the place g.
 pub record Grave-cell (g : ℕ) (c : Cell) : Type 0 where
