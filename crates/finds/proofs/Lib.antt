@@ -5,3 +5,4 @@ pub mod Counts
 pub mod Start
 pub mod Worked
 pub mod Size
+pub mod Bits

@@ -1,4 +1,4 @@
-pub mod Bits
+pub mod Reach
 pub mod Between
 pub mod Places
 pub mod KindList

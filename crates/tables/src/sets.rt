@@ -9,10 +9,9 @@ use crate::stored::Table;
 
 // Whether the grave is in the set.
 pub fn contains(set: u64, grave: u8) -> bool
-    requires { ⌜ grave < 64 ⌝ }
     ensures { λ r. ⌜ r ≡ has set grave ⌝ }
 {
-    set >> grave & 1 == 1
+    grave < 64 && (set >> grave) & 1 == 1
 }
 
 // The sets of the table's kinds into the front of `sets`; how many there are.

@@ -19,7 +19,7 @@ use Rattle.finds.proofs.Counts.{countTs-plus, allows-count, in-row-count, mixed
 use Rattle.finds.proofs.Start.{every, count-length, count-at}
 use Rattle.trees.specs.Cells.{size, sizes, set-of, Sounds}
 use Rattle.trees.specs.Reading.{Reads, left-of, begin-of}
-use Rattle.trees.proofs.Bits.{bit-pow, bit-pow-other}
+use Rattle.finds.proofs.Bits.{bit-pow, bit-pow-other}
 use Rattle.trees.proofs.Cells.{some-nodes, len-nodes, few-nodes, all-few-nodes}
 use Rattle.trees.proofs.Sets.{bit-set}
 

@@ -21,7 +21,7 @@ use Rattle.trees.specs.Cells.{nodes, all-nodes, size, set-of, sets-of, kids, S
 use Rattle.trees.specs.Checks.{Checked, Tree-in}
 use Rattle.trees.specs.Rows.{seen, Stands}
 use Rattle.trees.specs.declared.rows.View.{View}
-use Rattle.trees.proofs.Bits.{bit-and, bit-zero, bit-ext, ones-none}
+use Rattle.finds.proofs.Bits.{bit-and, bit-zero, bit-ext, ones-none}
 use Rattle.trees.proofs.Cells.{some-nodes, nodes-plus, kids-ats, body-set, ats-cut, ats-at, ats-plus, holds-part}
 use Rattle.trees.proofs.Sets.{sound-kids, bit-set, bit-sets, sets-more, few-cells}
 use Rattle.trees.proofs.Standing.{part-size, kids-set}

@@ -1,5 +1,4 @@
 pub mod Cells
-pub mod Bits
 pub mod Sets
 pub mod Deciding
 pub mod Standing

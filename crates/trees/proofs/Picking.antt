@@ -19,7 +19,7 @@ use Rattle.finds.proofs.Counts.{countTs-plus, mixed-count, allows-count}
 use Rattle.finds.proofs.Start.{count-at}
 use Rattle.trees.specs.Cells.{size, sizes, set-of, sets-of, kids, Sound}
 use Rattle.trees.specs.Walks.{Branch-with}
-use Rattle.trees.proofs.Bits.{bit-zero, bit-and, bit-or, bit-ext}
+use Rattle.finds.proofs.Bits.{bit-zero, bit-and, bit-or, bit-ext}
 use Rattle.trees.proofs.Sets.{sound-kids, bit-set, bit-sets}
 use Rattle.trees.proofs.Allowing.{goods-sizes, sizes-plus, any-to, any-from}
 

@@ -17,7 +17,7 @@ use Rattle.finds.specs.Sets.{bit}
 use Rattle.finds.proofs.Counts.{countTs-plus}
 use Rattle.trees.specs.Cells.{nodes, size, sizes, set-of, sets-of, kids, Sound, Sounds}
 use Rattle.trees.specs.Masks.{Mask}
-use Rattle.trees.proofs.Bits.{bit-zero, bit-or, bit-pow, bit-pow-other, bit-ext, or-assoc, ones-none, ones-plus, ones-or, ones-pow}
+use Rattle.finds.proofs.Bits.{bit-zero, bit-or, bit-pow, bit-pow-other, bit-ext, or-assoc, ones-none, ones-plus, ones-or, ones-pow}
 use Rattle.trees.proofs.Cells.{few-nodes, all-few-nodes, len-nodes}
 
 -- ---- sound trees and their branches

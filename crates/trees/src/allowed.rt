@@ -5,8 +5,8 @@ use crate::rows::View;
 use crate::rows::sort_of;
 use crate::walk::branch_with;
 use crate::walk::graves_at;
-use crate::walk::is_in;
 use crate::walk::next_after;
+use tables::sets::contains;
 ghost use mathlib.Core.Path.{_≡_};
 ghost use Prim.Native.Nat.{_+_, _≤_};
 ghost use lib.Count.{ones};
@@ -41,7 +41,7 @@ pub fn part_allows(view: View, count: usize, i: usize, row: &[u8]) -> bool
         return false;
     };
     match sort {
-        Sort::Grave => is_in(row[0], view.sets[i]),
+        Sort::Grave => contains(view.sets[i], row[0]),
         Sort::Any => any_allows(view, count, i, row),
         Sort::Row => row_allows(view, count, i, row),
     }
@@ -57,7 +57,7 @@ fn any_allows(view: View, count: usize, i: usize, row: &[u8]) -> bool
     let mut left = view.sets[i];
     let mut at = 0;
     while at < row.len() {
-        if !is_in(row[at], left) {
+        if !contains(left, row[at]) {
             return false;
         }
         let Some(branch) = branch_with(view, count, i, row[at]) else {
@@ -80,7 +80,7 @@ fn row_allows(view: View, count: usize, i: usize, row: &[u8]) -> bool
     requires long { ⌜ length (now row) ≡ ones (seen view .set i) ⌝ }
     ensures { λ r. ⌜ ((t : Tree) → Part (seen (view .entry)) count i t → Sound t → Decides r (Allows t (now (row .entry)))) ⌝ }
 {
-    let back = !is_in(row[0], view.sets[i + 1]);
+    let back = !contains(view.sets[i + 1], row[0]);
     let end = next_after(view, count, i);
     let mut branch = i + 1;
     let mut at = 0;

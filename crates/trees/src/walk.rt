@@ -1,22 +1,16 @@
 // Walking a tree in its rows.
 use crate::rows::View;
+use tables::sets::contains;
 ghost use mathlib.Core.Path.{_≡_};
 ghost use Prim.Native.Nat.{_+_, _≤_, _<_};
 ghost use lib.Count.{ones};
 ghost use lib.ListN.{length, drop};
 ghost use Rattle.std.specs.Options.{Cases as BySome};
-ghost use Rattle.finds.specs.Sets.{bit, has};
+ghost use Rattle.finds.specs.Sets.{bit};
 ghost use Rattle.finds.specs.Trees.{Tree};
 ghost use Rattle.trees.specs.Cells.{nodes, sets-of, kids, Part};
 ghost use Rattle.trees.specs.Rows.{seen, Stands};
 ghost use Rattle.trees.specs.Walks.{Listed, Branch-with};
-
-// Whether the set has the grave.
-pub fn is_in(grave: u8, set: u64) -> bool
-    ensures { λ r. ⌜ r ≡ has set grave ⌝ }
-{
-    grave < 64 && (set >> grave) & 1 == 1
-}
 
 // How many graves the part with its root in cell i has.
 pub fn graves_at(view: View, count: usize, i: usize) -> usize
@@ -70,7 +64,7 @@ pub fn branch_with(view: View, count: usize, i: usize, grave: u8) -> Option<usiz
     let end = next_after(view, count, i);
     let mut at = i + 1;
     while at < end {
-        if is_in(grave, view.sets[at]) {
+        if contains(view.sets[at], grave) {
             return Some(at);
         }
         at = next_after(view, count, at);

@@ -1,4 +1,4 @@
-use Rattle.tables.proofs.Bits.{reaches-is}
+use Rattle.tables.proofs.Reach.{reaches-is}
 use Rattle.tables.proofs.reading.reaches.Needs as need
 
 pub returns-then-n-lt64 : need.returns-then-n-lt64

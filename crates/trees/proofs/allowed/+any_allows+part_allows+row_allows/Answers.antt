@@ -38,10 +38,10 @@ any-allows-loop-at-holds t c = λ u p s.
     picked-start u (c .args .row .now) (seen (c .args .view) .set (c .args .i)) (kids-set (seen (c .args .view)) (c .args .i) u (p .0) l .0)
     (kids-size (seen (c .args .view)) (c .args .count) (c .args .i) u p s l ∙ sym (c .pre .long))
 
-pub any-allows-returns-then-not-is-in : need.any-allows-returns-then-not-is-in
-any-allows-returns-then-not-is-in t c = λ u p s.
+pub any-allows-returns-then-not-contains : need.any-allows-returns-then-not-contains
+any-allows-returns-then-not-contains t c = λ u p s.
     as-any (seen (c .args .view)) (c .args .i) u (c .args .row .now) false (p .0) (c .pre .sort)
-    (not-so (picked-gone s (c .loop-at .inv u p s) (c .loop-at-test .taken) (sym (c .if-not-is-in .ensures tt))))
+    (not-so (picked-gone s (c .loop-at .inv u p s) (c .loop-at-test .taken) (sym (c .if-not-contains .ensures tt))))
 
 pub any-allows-returns-in-rest : need.any-allows-returns-in-rest
 any-allows-returns-in-rest t c = λ u p s.
@@ -54,14 +54,14 @@ any-allows-part-part-allows-end t c =
     let b = c .in-Some .ensures tt .found (s .tree) (s .part) in
     let q = c .loop-at .inv (s .tree) (s .part) (s .sound) in
     let e = c .graves-at-many .ensures .many ∙ part-size (seen (c .args .view)) (c .args .count) (c .in-Some .branch) (b .it) (with-part (seen (c .args .view)) (c .args .count) b (s .part)) (with-sound (s .sound) b) in
-    omega (arith, pick-size (s .sound) q (pick (s .sound) q b (sym (c .if-not-is-in .ensures tt))) .1)
+    omega (arith, pick-size (s .sound) q (pick (s .sound) q b (sym (c .if-not-contains .ensures tt))) .1)
 
 pub any-allows-returns-then-not-part-allows : need.any-allows-returns-then-not-part-allows
 any-allows-returns-then-not-part-allows t c = λ u p s.
     let b = c .in-Some .ensures tt .found u p in
     let q = with-part (seen (c .args .view)) (c .args .count) b p in
     let e = c .graves-at-many .ensures .many ∙ part-size (seen (c .args .view)) (c .args .count) (c .in-Some .branch) (b .it) q (with-sound s b) in
-    let k = pick s (c .loop-at .inv u p s) b (sym (c .if-not-is-in .ensures tt)) in
+    let k = pick s (c .loop-at .inv u p s) b (sym (c .if-not-contains .ensures tt)) in
     as-any (seen (c .args .view)) (c .args .i) u (c .args .row .now) false (p .0) (c .pre .sort)
     (not-so (picked-not s (c .loop-at .inv u p s) k (c .loop-at-test .taken) (b .in-it)
     (λ a. denied (c .if-not-part-allows .ensures tt (b .it) q (with-sound s b)) (subst (Allows (b .it)) (sym (part-is (c .args .row .now) (c .loop-at .at) (c .graves-at-many .result) (size (b .it)) e)) a))))
@@ -71,7 +71,7 @@ any-allows-loop-at-again t c = λ u p s.
     let b = c .in-Some .ensures tt .found u p in
     let q = with-part (seen (c .args .view)) (c .args .count) b p in
     let e = c .graves-at-many .ensures .many ∙ part-size (seen (c .args .view)) (c .args .count) (c .in-Some .branch) (b .it) q (with-sound s b) in
-    let k = pick s (c .loop-at .inv u p s) b (sym (c .if-not-is-in .ensures tt)) in
+    let k = pick s (c .loop-at .inv u p s) b (sym (c .if-not-contains .ensures tt)) in
     let a = c .if-not-part-allows .ensures tt (b .it) q (with-sound s b) .0 refl in
     let r = picked-more s (c .loop-at .inv u p s) k (c .loop-at-test .taken) (b .in-it) (subst (Allows (b .it)) (part-is (c .args .row .now) (c .loop-at .at) (c .graves-at-many .result) (size (b .it)) e) a) in
     subst (λ (x : ℕ). Picked u (c .args .row .now) (bitXor (c .loop-at .left) (seen (c .args .view) .set (c .in-Some .branch))) (c .loop-at .at + x)) (sym e)
@@ -101,7 +101,7 @@ row-allows-index-view-i t c =
 
 pub row-allows-loop-branch-holds : need.row-allows-loop-branch-holds
 row-allows-loop-branch-holds t c = λ u p. walk-start (c .args .i) u _
-    (λ s. taken-start (not (c .is-in-back .result)) (c .args .row .now) u (kids-size (seen (c .args .view)) (c .args .count) (c .args .i) u p s (omega (arith, c .pre .sort)) ∙ sym (c .pre .long)))
+    (λ s. taken-start (not (c .contains-back .result)) (c .args .row .now) u (kids-size (seen (c .args .view)) (c .args .count) (c .args .i) u p s (omega (arith, c .pre .sort)) ∙ sym (c .pre .long)))
 
 pub row-allows-graves-at-many-requires : need.row-allows-graves-at-many-requires
 row-allows-graves-at-many-requires t c κs = walk-stands (c .pre .stands) (c .loop-branch .inv) (c .next-after-end .ensures .end) (c .loop-branch-test .taken)
@@ -127,10 +127,10 @@ row-allows-returns-then-not-part-allows t c = λ u p s.
     let x = walk-next p (c .loop-branch .inv u p) (c .next-after-end .ensures .end u p) (c .loop-branch-test .taken) in
     let q = next-sound s x in
     let e = c .graves-at-many .ensures .many ∙ part-size (seen (c .args .view)) (c .args .count) (c .loop-branch .branch) (x .it) (x .part) q in
-    let w = way (seen (c .args .view)) (c .args .i) u (c .args .row .now) (not (c .is-in-back .result)) (p .0) (c .pre .sort) s (let s = stands-size (c .pre .stands) in omega (arith, c .pre .long)) (sym (c .is-in-back .ensures) ∙ sym (not-not (c .is-in-back .result))) in
+    let w = way (seen (c .args .view)) (c .args .i) u (c .args .row .now) (not (c .contains-back .result)) (p .0) (c .pre .sort) s (let s = stands-size (c .pre .stands) in omega (arith, c .pre .long)) (sym (c .contains-back .ensures) ∙ sym (not-not (c .contains-back .result))) in
     not-so (λ a. taken-not (x .so s)
     (λ h. denied (c .if-not-part-allows .ensures tt (x .it) (x .part) q)
-    (subst (Allows (x .it)) (sym (next-part (c .args .row .now) (not (c .is-in-back .result)) (c .loop-branch .at) (c .graves-at-many .result) (size (x .it)) (c .begin-of-begin .result) e (c .begin-of-begin .ensures .begins))) h))
+    (subst (Allows (x .it)) (sym (next-part (c .args .row .now) (not (c .contains-back .result)) (c .loop-branch .at) (c .graves-at-many .result) (size (x .it)) (c .begin-of-begin .result) e (c .begin-of-begin .ensures .begins))) h))
     (w .0 a))
 
 pub row-allows-next-after-branch-requires : need.row-allows-next-after-branch-requires
@@ -144,12 +144,12 @@ row-allows-loop-branch-again t c = λ u p.
     let q = next-sound s x in
     let e = c .graves-at-many .ensures .many ∙ part-size (seen (c .args .view)) (c .args .count) (c .loop-branch .branch) (x .it) (x .part) q in
     let a = c .if-not-part-allows .ensures tt (x .it) (x .part) q .0 refl in
-    subst (λ (k : ℕ). Taken (not (c .is-in-back .result)) (c .loop-branch .at + k) (c .args .row .now) u (x .rest)) (sym e)
-    (taken-more (x .so s) (subst (Allows (x .it)) (next-part (c .args .row .now) (not (c .is-in-back .result)) (c .loop-branch .at) (c .graves-at-many .result) (size (x .it)) (c .begin-of-begin .result) e (c .begin-of-begin .ensures .begins)) a)))
+    subst (λ (k : ℕ). Taken (not (c .contains-back .result)) (c .loop-branch .at + k) (c .args .row .now) u (x .rest)) (sym e)
+    (taken-more (x .so s) (subst (Allows (x .it)) (next-part (c .args .row .now) (not (c .contains-back .result)) (c .loop-branch .at) (c .graves-at-many .result) (size (x .it)) (c .begin-of-begin .result) e (c .begin-of-begin .ensures .begins)) a)))
 
 pub row-allows-returns : need.row-allows-returns
 row-allows-returns t c = λ u p s.
-    so (way (seen (c .args .view)) (c .args .i) u (c .args .row .now) (not (c .is-in-back .result)) (p .0) (c .pre .sort) s (let s = stands-size (c .pre .stands) in omega (arith, c .pre .long)) (sym (c .is-in-back .ensures) ∙ sym (not-not (c .is-in-back .result))) .1
+    so (way (seen (c .args .view)) (c .args .i) u (c .args .row .now) (not (c .contains-back .result)) (p .0) (c .pre .sort) s (let s = stands-size (c .pre .stands) in omega (arith, c .pre .long)) (sym (c .contains-back .ensures) ∙ sym (not-not (c .contains-back .result))) .1
     (taken-end (walk-end (c .loop-branch .inv u p) (c .next-after-end .ensures .end u p) (c .loop-branch-test .left) s)))
 
 -- ---- the three sorts
@@ -169,4 +169,4 @@ part-allows-returns-in-rest t c = λ u p s. absurd (omega (arith, sort-low (seen
 
 pub part-allows-returns-in-Grave : need.part-allows-returns-in-Grave
 part-allows-returns-in-Grave t c = λ u p s.
-    at-grave (seen (c .args .view)) (c .args .count) (c .args .i) u (c .args .row .now) (c .is-in .result) p s (sym (c .in-Some .ensures tt) ∙ ap code-of (c .in-Grave .is)) (c .pre .long) (c .is-in .ensures)
+    at-grave (seen (c .args .view)) (c .args .count) (c .args .i) u (c .args .row .now) (c .contains .result) p s (sym (c .in-Some .ensures tt) ∙ ap code-of (c .in-Grave .is)) (c .pre .long) (c .contains .ensures)

@@ -8,7 +8,7 @@ use Rattle.finds.specs.Trees.{Tree, Trees, none, more}
 use Rattle.finds.specs.Sets.{bit, has}
 use Rattle.trees.specs.Cells.{set-of, sets-of}
 use Rattle.trees.specs.Rows.{seen}
-use Rattle.trees.proofs.Bits.{bit-or, bit-low, bit-zero}
+use Rattle.finds.proofs.Bits.{bit-or, bit-low, bit-zero}
 use Rattle.trees.proofs.Cells.{body-set}
 use Rattle.trees.proofs.Sets.{sets-more}
 use Rattle.trees.proofs.Walking.{walk-start, walk-next, walk-more, walk-end, walk-stands}
@@ -37,19 +37,19 @@ loop-at-holds c = λ t p. walk-start (c .args .i) t (Without (c .args .grave)) (
 pub next-after-at-requires : need.next-after-at-requires
 next-after-at-requires c κs = walk-stands (c .pre) (c .loop-at .inv) (c .next-after-end .ensures .end) (c .loop-at-test .taken)
 
-pub returns-then-is-in : need.returns-then-is-in
-returns-then-is-in c = record {
+pub returns-then-contains : need.returns-then-contains
+returns-then-contains c = record {
   stands = walk-stands (c .pre) (c .loop-at .inv) (c .next-after-end .ensures .end) (c .loop-at-test .taken);
   found = λ t p.
       let x = walk-next p (c .loop-at .inv t p) (c .next-after-end .ensures .end t p) (c .loop-at-test .taken) in
-      record { before = x .done; it = x .it; behind = x .rest; is = x .is; at = x .at; in-it = found (c .args .grave) _ (x .it) (body-set (seen (c .args .view)) (c .loop-at .at) (x .it) (x .part .0)) (c .if-is-in .ensures tt) };
+      record { before = x .done; it = x .it; behind = x .rest; is = x .is; at = x .at; in-it = found (c .args .grave) _ (x .it) (body-set (seen (c .args .view)) (c .loop-at .at) (x .it) (x .part .0)) (c .if-contains .ensures tt) };
 }
 
 pub loop-at-again : need.loop-at-again
 loop-at-again c = λ t p.
     let x = walk-next p (c .loop-at .inv t p) (c .next-after-end .ensures .end t p) (c .loop-at-test .taken) in
     walk-more (Without (c .args .grave)) (c .next-after-at .result) x (c .next-after-at .ensures .end (x .it) (x .part))
-    (passed (c .args .grave) _ (x .done) (x .it) (body-set (seen (c .args .view)) (c .loop-at .at) (x .it) (x .part .0)) (x .so) (c .if-is-in .ensures tt))
+    (passed (c .args .grave) _ (x .done) (x .it) (body-set (seen (c .args .view)) (c .loop-at .at) (x .it) (x .part .0)) (x .so) (c .if-contains .ensures tt))
 
 pub returns : need.returns
 returns c = record { stands = tt; found = λ t p. walk-end (c .loop-at .inv t p) (c .next-after-end .ensures .end t p) (c .loop-at-test .left) }

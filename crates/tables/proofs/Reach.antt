@@ -1,17 +1,15 @@
--- Bits of sets: which graves a set has, and how far it reaches.
-use mathlib.Core.Path.{_≡_, refl, sym, ap, _∙_}
+-- How far a set of graves reaches.
+use mathlib.Core.Path.{_≡_, refl}
 use mathlib.Core.Logic.{_↔_}
 use mathlib.Core.Bool.{Bool, true, false, not}
-use Prim.Native.Nat.{ℕ, _*_, zero, suc, _/_, _%_, _^_, _≤_, _<_}
-use native.Mathlib.Nat.{div-lt-iff-lt-mul, div-one}
+use Prim.Native.Nat.{ℕ, _*_, _/_, _^_, _≤_, _<_}
+use native.Mathlib.Nat.{div-lt-iff-lt-mul}
 use native.Mathlib.Decide.{decLt}
 use native.Mathlib.Omega.{arith}
 use lib.Dec.{eqb}
 use borrow.Author.Tests.{eqb-true, eqb-false}
-use Rattle.std.proofs.shelf.Bits.{pow-pos, shr-shr}
-use lib.Bits.{bitAnd, and-mask}
+use Rattle.std.proofs.shelf.Bits.{pow-pos}
 use Rattle.std.specs.Orderings.{When}
-use Rattle.finds.specs.Sets.{bit, has}
 
 -- A set has a grave at or above n just if something is left when n bits are shifted out.
 pub reaches-is : (s n : ℕ) → When (not (eqb (s / 2 ^ n) 0)) (2 ^ n ≤ s) (s < 2 ^ n)
@@ -27,12 +25,3 @@ reaches-is s n = go (eqb (s / 2 ^ n) 0) refl
         at-least : Dec (s < 2 ^ n) → 2 ^ n ≤ s
         at-least (yes p) = absurd (eqb-false (s / 2 ^ n) 0 e (let q = below .1 (omega arith) in omega arith))
         at-least (no p) = omega arith
-
--- The bit for a grave, by a shift and a remainder.
-pub bit-is : (g s : ℕ) → bit g s ≡ s / 2 ^ g % 2
-bit-is zero s = ap (λ (x : ℕ). x % 2) (sym (div-one s))
-bit-is (suc g) s = bit-is g (s / 2) ∙ ap (λ (x : ℕ). x % 2) (shr-shr s 1 g ∙ ap (λ (x : ℕ). s / 2 ^ x) (omega arith))
-
--- Whether a grave is in a set, as the code tests it.
-pub has-is : (s g : ℕ) → eqb (bitAnd (s / 2 ^ g) 1) 1 ≡ has s g
-has-is s g = ap (λ (x : ℕ). eqb x 1) (and-mask (s / 2 ^ g) 1 ∙ sym (bit-is g s))
