@@ -1,0 +1,12 @@
+pub mod Places
+pub mod Middle
+pub mod Firm
+pub mod Loose
+pub mod Exact
+pub mod Numbering
+pub mod Counting
+pub mod Factors
+pub mod Descent
+pub mod Ends
+pub mod Level
+pub mod Way
