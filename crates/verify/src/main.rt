@@ -1,4 +1,6 @@
-// verify TABLE order FILE: checks an order of the graves from elsewhere against a table of finds.
+// verify TABLE order FILE, verify TABLE ring FILE: checks an order of the graves, or a ring of clashing pairs, from elsewhere against a table of finds.
+use grounds::checking::verify_ring;
+use grounds::verdict::RingVerdict;
 use std::env;
 use std::error::AnyError;
 use std::fs;
@@ -14,11 +16,28 @@ enum Ending {
     TurnedAway,
 }
 
+// What is to be checked.
+#[derive(Clone, Copy, Drop)]
+enum Question {
+    Order,
+    Ring,
+}
+
 // The words of a call.
 #[derive(Drop)]
 struct Call {
     table: String,
-    order: String,
+    question: Question,
+    file: String,
+}
+
+// What the word asks for, if it is one of the two.
+fn question_of(word: &str) -> Option<Question> {
+    match word {
+        "order" => Some(Question::Order),
+        "ring" => Some(Question::Ring),
+        _ => None,
+    }
 }
 
 // The words of the call, if they are as they should be.
@@ -28,16 +47,23 @@ fn words(rt: &LibcRuntime) -> io::Result<Option<Call>> {
     let Some(table) = args.next() else {
         return Ok(None);
     };
-    let Some(what) = args.next() else {
+    let Some(word) = args.next() else {
         return Ok(None);
     };
-    let Some(order) = args.next() else {
+    let Some(file) = args.next() else {
         return Ok(None);
     };
-    if what.as_str() != "order" || args.next().is_some() {
+    let Some(question) = question_of(word.as_str()) else {
+        return Ok(None);
+    };
+    if args.next().is_some() {
         return Ok(None);
     }
-    Ok(Some(Call { table, order }))
+    Ok(Some(Call {
+        table,
+        question,
+        file,
+    }))
 }
 
 // The bytes of a file; where it cannot be read, a sentence on stderr.
@@ -51,41 +77,51 @@ fn bytes_of(rt: &LibcRuntime, path: &str) -> io::Result<Option<Vec<u8>>> {
     }
 }
 
-// Prints the answer or the refusal.
-fn tell(rt: &LibcRuntime, answer: Result<Verdict, Refusal>) -> io::Result<Ending> {
+fn refuse(rt: &LibcRuntime, refusal: Refusal) -> io::Result<Ending> {
+    let number = refusal.number();
+    let place = refusal.place();
+    println!(rt, "refused {number} at {place}")?;
+    Ok(Ending::TurnedAway)
+}
+
+// Prints what is said of an order.
+fn tell_order(rt: &LibcRuntime, answer: Result<Verdict, Refusal>) -> io::Result<Ending> {
     match answer {
-        Ok(Verdict::Fitting) => {
-            println!(rt, "fits")?;
-            Ok(Ending::Answered)
-        }
-        Ok(Verdict::Torn { kind, grave }) => {
-            println!(rt, "torn {kind} at {grave}")?;
-            Ok(Ending::Answered)
-        }
-        Err(refusal) => {
-            let number = refusal.number();
-            let place = refusal.place();
-            println!(rt, "refused {number} at {place}")?;
-            Ok(Ending::TurnedAway)
-        }
+        Ok(Verdict::Fitting) => println!(rt, "fits")?,
+        Ok(Verdict::Torn { kind, grave }) => println!(rt, "torn {kind} at {grave}")?,
+        Err(refusal) => return refuse(rt, refusal),
     }
+    Ok(Ending::Answered)
+}
+
+// Prints what is said of a ring.
+fn tell_ring(rt: &LibcRuntime, answer: Result<RingVerdict, Refusal>) -> io::Result<Ending> {
+    match answer {
+        Ok(RingVerdict::Ground) => println!(rt, "ground")?,
+        Ok(RingVerdict::NoClash { pair }) => println!(rt, "no clash at {pair}")?,
+        Err(refusal) => return refuse(rt, refusal),
+    }
+    Ok(Ending::Answered)
 }
 
 fn run(rt: &LibcRuntime) -> io::Result<Ending> {
     let Some(call) = words(rt)? else {
         eprintln!(
             rt,
-            "verify: wrong words. Call it as: verify TABLE order FILE"
+            "verify: wrong words. Call it as: verify TABLE order FILE, or: verify TABLE ring FILE"
         )?;
         return Ok(Ending::TurnedAway);
     };
     let Some(table) = bytes_of(rt, call.table.as_str())? else {
         return Ok(Ending::TurnedAway);
     };
-    let Some(order) = bytes_of(rt, call.order.as_str())? else {
+    let Some(file) = bytes_of(rt, call.file.as_str())? else {
         return Ok(Ending::TurnedAway);
     };
-    tell(rt, verify_order(table.as_slice(), order.as_slice()))
+    match call.question {
+        Question::Order => tell_order(rt, verify_order(table.as_slice(), file.as_slice())),
+        Question::Ring => tell_ring(rt, verify_ring(table.as_slice(), file.as_slice())),
+    }
 }
 
 fn main(rt: LibcRuntime) -> Result<(), AnyError> {

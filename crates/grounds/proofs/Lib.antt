@@ -1,0 +1,12 @@
+pub mod KindSets
+pub mod RingBytes
+pub mod Clashing
+pub mod Numbers
+pub mod Entering
+pub mod Steps
+pub mod Beside
+pub mod AtWork
+pub mod Unions
+pub mod Turns
+pub mod Climbing
+pub mod Rings

@@ -1,0 +1,6 @@
+pub mod Checking
+pub mod Notes
+pub mod Neighbours
+pub mod Searching
+pub mod Reading
+pub mod Finding
