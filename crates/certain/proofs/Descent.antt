@@ -43,6 +43,7 @@ module _ (a b c : ℕ) (R : Cells) (i : ℕ) (x : Trees) (t : Tree) (y : Trees) 
   to-branch (row ts) is o body (inl m) = inl (at-middles a b c x t y (subst Once is o b) ib (subst (Middles a b c) is m))
   to-branch (row ts) is o body (inr s) = inr (at-sides a b c x t y (subst Once is o b) ib (subst (Sides a b c) is s), body .0)
 
+  -- And the other way round.
   pub from-branch : (u : Tree) → kids u ≡ x +++ more t y → Middle a b c t → Middle a b c u
   from-branch (grave g) is m = absurd (let n = ap (countTs (eqb b) true) is ∙ countTs-plus (eqb b) true x (more t y) in omega arith)
   from-branch (any ts) is m = rw is (middles-at a b c x t y m)
@@ -72,6 +73,7 @@ lay-under u (ahead h k) = ahead h (omega arith)
 lay-under u (level h k) = level h k
 lay-under u (past h k) = past h k
 
+-- Of two branches of the same place, each with the branches before it and behind it: where the second lies, seen from the first.
 lay-nodes : (g : ℕ) (x : Trees) (t : Tree) (y x' : Trees) (t' : Tree) (y' : Trees) → x +++ more t y ≡ x' +++ more t' y' → In g t' → Lay g (all-nodes x') (all-nodes x) x t y
 lay-nodes g none t y none t' y' e h = let z : t' ≡ t = cc in level refl (subst (In g) z h)
 lay-nodes g none t y (more u x') t' y' e h =
@@ -83,6 +85,7 @@ lay-nodes g (more u x) t y (more u' x') t' y' e h =
     subst (λ (w : Tree). Lay g (nodes w + all-nodes x') (nodes u + all-nodes x) (more u x) t y) z
     (lay-under u (lay-moved (nodes u) (lay-nodes g x t y x' t' y' (cc) h)))
 
+-- The same in the cells of a tree.
 pub in-it : {i g d : ℕ} {u : Tree} (h : Branch-with i g u d) → In g (h .it)
 in-it {g = g} h = let z = bit-set g (h .it) in let w = h .in-it in omega arith
 

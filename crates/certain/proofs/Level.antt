@@ -87,6 +87,7 @@ module _ (b : ℕ) (R : Cells) (i : ℕ) (u : Tree) (body : Body R i u) (once : 
     behind-it = reads-all y;
   }
 
+  -- The places of graves before the branch, in it, and behind it.
   left : (g : ℕ) → In-some g x → (place-in (graves u) g ≡ place-in (all-graves x) g) × (place-in (all-graves x) g < length (all-graves x))
   left = at-left cut-once reading
 
@@ -177,6 +178,7 @@ module _ (b : ℕ) (R : Cells) (i : ℕ) (u : Tree) (body : Body R i u) (once : 
       some g none h = h
       some g (more v ts) h = omega arith
 
+  -- So it goes from the branch to the tree.
   pub level : (r q : Option Neighbours) → Right t b r → Flanks (R .sort i) x y q → Right u b (or-else r q)
   level (Some p) q h k = inner p h
   level None (Some p) h k = outer p h (k .0) (k .1)

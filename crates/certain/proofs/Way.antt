@@ -23,6 +23,7 @@ use Rattle.certain.proofs.Level.{Right, or-else, level, right-told}
 abbrev pub So-far : ℕ → Cells → ℕ → ℕ → Option Neighbours → Type 0
 So-far b R n i best = (t : Tree) → Holds R n t → Sound t → Come R n i (λ u. (r : Option Neighbours) → Right u b r → Right t b (or-else r best))
 
+-- A branch that has a grave is a branch.
 abbrev pub branch-at : {i g c : ℕ} {u : Tree} → Branch-with i g u c → Branch-at i c u
 branch-at w = record { before = w .before; it = w .it; behind = w .behind; is = w .is; at = w .at }
 
@@ -33,6 +34,7 @@ so-far-start b R n t h s = record { it = t; part = holds-part R n t h; sound = s
     same (Some p) k = k
     same None k = k
 
+-- One branch further down: what flanks it is told if nothing inside it is.
 pub so-far-more : {b : ℕ} {R : Cells} {n i c : ℕ} {best : Option Neighbours} (q : Option Neighbours) → So-far b R n i best → ((u : Tree) → Part R n i u → Branch-with i b u c) →
     ((u : Tree) → Part R n i u → Sound u → (w : Branch-at i c u) → Flanks (R .sort i) (w .before) (w .behind) q) → So-far b R n c (or-else q best)
 so-far-more {b} {R} {n} {i} {c} {best} q f g k t h s =
@@ -50,6 +52,7 @@ so-far-more {b} {R} {n} {i} {c} {best} q f g k t h s =
     both (Some p) m = m
     both None m = m
 
+-- Where no branch has b, what is told so far is all.
 pub so-far-end : {b : ℕ} {v : View} {n i : ℕ} {best : Option Neighbours} → So-far b (seen v) n i best → ((u : Tree) → Part (seen v) n i u → bit b (sets-of (kids u)) ≡ 0) →
     (f : Finds) (t : Tree) → Shows v n f t → Told f (graves t) b best
 so-far-end {b} {best = best} w g f t s =

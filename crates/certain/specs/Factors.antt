@@ -8,7 +8,7 @@ use Rattle.trees.specs.Cells.{Cells}
 abbrev pub own : Cells → ℕ → ℕ
 own R j = cond (eqb (R .sort j) 2) 2 1
 
--- What it adds as one of branches in any order: there it may stand at so many of the places up to its own. The root is no branch.
+-- What it adds as one of branches in any order: one more than its place, so that k branches add 1 * 2 * .. * k. The root is no branch.
 abbrev pub among : Cells → ℕ → ℕ
 among R zero = 1
 among R (suc j) = cond (eqb (R .sort (R .parent (suc j))) 1) (R .place (suc j) + 1) 1

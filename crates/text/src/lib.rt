@@ -16,6 +16,7 @@ ghost use Rattle.trees.specs.Cells.{Holds, Part, Sound};
 ghost use Rattle.trees.specs.Checks.{Tree-in};
 ghost use Rattle.trees.specs.Rows.{seen, Stands};
 ghost use Rattle.text.specs.Show.{show};
+ghost use Rattle.text.specs.Worked.{Worked-texts};
 
 // The text of the tree in the rows, or want of memory.
 pub fn text(heap: Global, view: View, count: usize) -> Result<String, AllocError>
@@ -79,3 +80,8 @@ fn write_byte(byte: u8, out: &mut String) -> Result<(), AllocError>
 {
     out.push(byte as char)
 }
+
+// The definition at work: two trees and their texts.
+pub fn worked_texts()
+    ensures { λ _. ⌜ Worked-texts ⌝ }
+{}
