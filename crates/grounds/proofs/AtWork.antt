@@ -2,22 +2,21 @@
 use mathlib.Core.Path.{_≡_, refl, sym, ap, subst, subst₂, _∙_}
 use mathlib.Core.Logic.{_⊎_, inl, inr, _≢_, _↔_, if-pos, ⊎-elim}
 use mathlib.Core.List.{List, [], _∷_}
-use Prim.Native.Nat.{ℕ, _+_, _-_, _*_, _%_, _≤_, _<_}
+use Prim.Native.Nat.{ℕ, _+_, _*_, _%_, _≤_, _<_}
 use native.Mathlib.Omega.{arith}
 use native.Mathlib.Decide.{ℕ-discrete}
 use borrow.Author.Count.{below-more}
 use lib.ListN.{length, getD, set}
 use Rattle.std.proofs.shelf.Lists.{getD-set-same}
 use Rattle.finds.specs.Finds.{Finds, Pair}
-use Rattle.finds.specs.Exactness.{Some-fits}
 use Rattle.clashes.specs.Colours.{pair, op, Proper}
-use Rattle.clashes.specs.Rings.{Joint, Parts}
-use Rattle.clashes.specs.Search.{Mark, Search, Differ, Legs}
+use Rattle.clashes.specs.Rings.{Joint}
+use Rattle.clashes.specs.Search.{Mark, Differ, Legs}
 use Rattle.clashes.proofs.Clashes.{same-pair, opposed, parted, joint-op, joint-left, neighbour}
 use Rattle.clashes.proofs.Search.{paint, look, finish}
 use Rattle.clashes.proofs.Readback.{start}
 use Rattle.grounds.specs.Notes.{number, numbered, Seen, Queued, noted, Notes, beside, Working, Forked}
-use Rattle.grounds.proofs.Numbers.{numbered-number, number-below, same-number}
+use Rattle.grounds.proofs.Numbers.{numbered-number, same-number}
 use Rattle.grounds.proofs.Beside.{beside-on, beside-back}
 use Rattle.grounds.proofs.Entering.{seeded, Fresh, depths′, parents′, queue′, still, keeps, now-seen, adds, entered}
 
@@ -123,11 +122,6 @@ module _ {f : Finds} {below : ℕ} {depths parents queue : List ℕ} {head tail 
           (λ r h. ⊎-elim (λ s. inl (keeps k v r s)) inr (k .passed r h))
 
 module _ {f : Finds} {below : ℕ} {depths parents queue : List ℕ} {head tail : ℕ} where
-  -- The next pair in the queue comes to work.
-  pub begins : (p : Pair) → Notes f below depths parents queue head tail → head < tail → Proper f p → getD queue head 0 ≡ number (f .graves) p →
-      Working f below depths parents queue head tail p 0
-  begins p k l h e = record { notes = k; waits = l; here = e; proper = h; met = λ i m. absurd (omega arith) }
-
   -- All that clashes with p has been met: p is done.
   pub done : {p : Pair} → Working f below depths parents queue head tail p (2 * f .graves) → Notes f below depths parents queue (head + 1) tail
   done {p} w = record {

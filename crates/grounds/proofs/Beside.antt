@@ -1,6 +1,6 @@
 -- The pairs beside a pair, and which of them clash with it.
-use mathlib.Core.Path.{_≡_, refl, sym, ap, subst}
-use mathlib.Core.Logic.{_⊎_, inl, inr, _↔_, ⊎-elim}
+use mathlib.Core.Path.{_≡_, refl, sym, subst}
+use mathlib.Core.Logic.{inl, inr, _↔_, ⊎-elim}
 use mathlib.Core.Bool.{true, false}
 use Prim.Native.Nat.{ℕ, _-_, _*_, _≤_, _<_}
 use native.Mathlib.Omega.{arith}
@@ -8,7 +8,7 @@ use borrow.Author.Tests.{lt-ltb, le-ltb}
 use Rattle.finds.specs.Finds.{Finds, Pair}
 use Rattle.finds.specs.Sets.{has}
 use Rattle.clashes.specs.Colours.{pair, Proper}
-use Rattle.clashes.specs.Rings.{Joint, Parts}
+use Rattle.clashes.specs.Rings.{Joint}
 use Rattle.clashes.proofs.Clashes.{first-of, second-of, opposed, parted, other-way, joint-op, joint-left, joint-tested}
 use Rattle.grounds.specs.Neighbours.{Beyond, Clashing}
 use Rattle.grounds.specs.Notes.{number, beside}

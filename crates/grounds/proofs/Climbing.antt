@@ -1,5 +1,5 @@
 -- The way up from two clashing pairs of one colour, written into the cells of the queue from both ends.
-use mathlib.Core.Path.{_≡_, refl, sym, ap, subst, subst₂, _∙_}
+use mathlib.Core.Path.{_≡_, sym, ap, subst, subst₂, _∙_}
 use mathlib.Core.Logic.{_≢_}
 use mathlib.Core.List.{List, [], _∷_, _++_, map}
 use Prim.Native.Nat.{ℕ, _+_, _-_, _*_, _≤_, _<_}
@@ -11,10 +11,10 @@ use Rattle.std.proofs.shelf.Elements.{all-getD}
 use Rattle.finds.specs.Finds.{Finds, Pair}
 use Rattle.clashes.specs.Colours.{pair, Proper}
 use Rattle.clashes.specs.Rings.{Ring}
-use Rattle.clashes.specs.Search.{Mark, Child, Legs}
+use Rattle.clashes.specs.Search.{Mark}
 use Rattle.clashes.proofs.Chains.{chain-proper}
-use Rattle.clashes.proofs.Readback.{met, legs-short, left-child, right-child, up-left, up-right}
-use Rattle.grounds.specs.Notes.{number, numbered, Seen, noted, Climbing, Forked}
+use Rattle.clashes.proofs.Readback.{met, legs-short, up-left, up-right}
+use Rattle.grounds.specs.Notes.{number, numbered, noted, Climbing, Forked}
 use Rattle.grounds.specs.Reading.{Closed}
 use Rattle.grounds.proofs.Numbers.{numbered-number, number-below, same-number}
 use Rattle.grounds.proofs.Turns.{fewer}

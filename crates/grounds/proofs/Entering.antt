@@ -1,15 +1,15 @@
 -- A pair that is not seen gets its notes: what the cells say of all other pairs stays.
-use mathlib.Core.Path.{_≡_, refl, sym, ap, subst, _∙_}
-use mathlib.Core.Logic.{_⊎_, inl, inr, _≢_, ite, if-pos, if-neg, ⊎-elim}
-use mathlib.Core.List.{List, [], _∷_, map}
-use Prim.Native.Nat.{ℕ, _+_, _-_, _*_, _≤_, _<_}
+use mathlib.Core.Path.{_≡_, sym, ap, _∙_}
+use mathlib.Core.Logic.{_⊎_, inl, inr, _≢_, ite, if-neg, ⊎-elim}
+use mathlib.Core.List.{List}
+use Prim.Native.Nat.{ℕ, _+_, _-_, _≤_, _<_}
 use native.Mathlib.Omega.{arith}
 use native.Mathlib.Decide.{decLt}
-use lib.ListN.{length, getD, set, take}
+use lib.ListN.{length, getD, set}
 use Rattle.std.proofs.shelf.Lists.{getD-set-same, getD-set-other}
 use Rattle.finds.specs.Finds.{Finds, Pair}
-use Rattle.clashes.specs.Colours.{pair, Proper}
-use Rattle.clashes.specs.Search.{Mark, Search, Adds}
+use Rattle.clashes.specs.Colours.{Proper}
+use Rattle.clashes.specs.Search.{Search, Adds}
 use Rattle.clashes.proofs.Clashes.{same-pair}
 use Rattle.clashes.proofs.Search.{same-mark}
 use Rattle.grounds.specs.Notes.{number, numbered, Seen, Queued, noted, Notes}
@@ -47,6 +47,7 @@ module _ {f : Finds} {below : ℕ} {depths parents queue : List ℕ} {head tail 
   abbrev pub queue′ : List ℕ
   queue′ = set queue tail x
 
+  -- Its cell is that of no pair seen before.
   pub other : (p : Pair) → Seen f depths p → number (f .graves) p ≢ x
   other p h e = let z = h .1 in let y = ap (λ (y : ℕ). getD depths y 0) e in let u = v .unseen in omega arith
 
@@ -66,9 +67,11 @@ module _ {f : Finds} {below : ℕ} {depths parents queue : List ℕ} {head tail 
       go (yes e) = inr e
       go (no ne) = inl (h .0, let z = getD-set-other depths x (number (f .graves) p) (v .depth) 0 (λ e. ne (same-number f p q (h .0) (v .proper) e)) in let y = h .1 in omega arith)
 
+  -- What was queued stays so.
   queued-still : (end : ℕ) → end ≤ tail → (p : Pair) → Queued f queue end p → Queued f queue′ end p
   queued-still end le p h = (h .0, (h .1 .0, h .1 .1, still (h .1 .0) (let l = h .1 .1 in omega arith) ∙ h .1 .2))
 
+  -- So one pair more is seen, and nothing else changes.
   pub adds : Adds (Seen f depths) (Queued f queue head) (noted f (k .seed) depths parents) q
       (Seen f depths′) (Queued f queue′ head) (noted f (seeded (k .seed) q (v .s)) depths′ parents′)
   adds = let le = k .ordered in record {

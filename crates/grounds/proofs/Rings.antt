@@ -1,5 +1,5 @@
 -- The ring that was read back, in the bytes that were lent for it.
-use mathlib.Core.Path.{_≡_, refl, sym, ap, ap₂, subst, _∙_}
+use mathlib.Core.Path.{_≡_, sym, ap, ap₂, subst, _∙_}
 use mathlib.Core.List.{List, _++_, map}
 use Prim.Native.Nat.{ℕ, _+_, _-_, _*_, _≤_, _<_}
 use native.Mathlib.Omega.{arith}
@@ -9,7 +9,6 @@ use Rattle.std.proofs.shelf.Lists.{length-append, length-map, length-take-le, l
 use Rattle.std.proofs.shelf.Parts.{take-putMid, drop-putMid, drop-append-drop}
 use Rattle.finds.specs.Finds.{Finds, Pair}
 use Rattle.finds.proofs.Laws.{ground-law}
-use Rattle.clashes.specs.Rings.{Ring}
 use Rattle.clashes.proofs.Chains.{closes-ground}
 use Rattle.grounds.specs.Checking.{pairs-of}
 use Rattle.grounds.specs.Finding.{Ring-in}

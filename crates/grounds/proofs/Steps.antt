@@ -1,25 +1,25 @@
 -- The steps of the search on its cells.
 use mathlib.Core.Path.{_≡_, refl, sym, ap, subst, _∙_}
 use mathlib.Core.Logic.{_⊎_, inl, inr, _≢_, if-pos, ⊎-elim}
-use mathlib.Core.List.{List, [], _∷_, map}
-use Prim.Native.Nat.{ℕ, zero, suc, _+_, _-_, _*_, _/_, _%_, _≤_, _<_}
+use mathlib.Core.List.{List, [], _∷_}
+use Prim.Native.Nat.{ℕ, zero, suc, _+_, _-_, _*_, _≤_, _<_}
 use native.Mathlib.Omega.{arith}
-use native.Mathlib.Decide.{decLt, ℕ-discrete}
+use native.Mathlib.Decide.{ℕ-discrete}
 use lib.ListN.{length, getD, set}
 use Rattle.std.proofs.shelf.Bits.{div-mul-add, le-div}
-use Rattle.std.proofs.shelf.Lists.{getD-set-same, getD-map, getD-take, length-take-le}
+use Rattle.std.proofs.shelf.Lists.{getD-set-same}
 use Rattle.std.specs.shelf.Lists.{All}
 use Rattle.finds.specs.Finds.{Finds, Pair}
 use Rattle.finds.specs.Exactness.{Some-fits}
 use Rattle.clashes.specs.Colours.{pair, Proper}
-use Rattle.clashes.specs.Rings.{Joint, at, Once, Lacks}
-use Rattle.clashes.specs.Search.{Mark, Search, Differ}
+use Rattle.clashes.specs.Rings.{at, Once}
+use Rattle.clashes.specs.Search.{Mark, Search}
 use Rattle.clashes.proofs.Clashes.{same-pair}
 use Rattle.clashes.proofs.Orders.{order-of}
-use Rattle.clashes.proofs.Search.{begin, next, plant, paint, look, finish, colours}
-use Rattle.clashes.proofs.Short.{once-at, pairs-few}
+use Rattle.clashes.proofs.Search.{begin, next, plant, colours}
+use Rattle.clashes.proofs.Short.{pairs-few}
 use Rattle.grounds.specs.Notes.{number, numbered, Seen, Queued, noted, Notes}
-use Rattle.grounds.proofs.Numbers.{numbered-number, number-below, same-number}
+use Rattle.grounds.proofs.Numbers.{numbered-number, number-below}
 use Rattle.grounds.proofs.Entering.{Fresh, depths′, keeps, now-seen, adds, entered}
 
 module _ (f : Finds) where
@@ -76,17 +76,9 @@ module _ (f : Finds) where
     listed-proper : All (Proper f) (listed tail)
     listed-proper = listed-all (Proper f) tail (λ i h. let a = listed-at i h in subst (Proper f) (sym (a .2)) (a .1 .0))
 
-    -- The queue has no more pairs than there are, and room for one that is not seen.
+    -- The queue has no more pairs than there are.
     pub tail-few : tail ≤ f .graves * (f .graves - 1)
     tail-few = let z = pairs-few f (listed tail) (listed-once tail (omega arith)) listed-proper in let y = listed-length tail in omega arith
-
-    pub room-for : (q : Pair) → Proper f q → getD depths (number (f .graves) q) 0 ≡ 0 → tail < f .graves * (f .graves - 1)
-    room-for q h new =
-        let z = pairs-few f (q ∷ listed tail) (lacks, listed-once tail (omega arith)) (h, listed-proper) in let y = listed-length tail in omega arith
-      where
-        lacks : Lacks q (listed tail)
-        lacks = listed-all (λ p. q ≢ p) tail
-            (λ i l e. let a = listed-at i l in let z = ap (λ (p : Pair). getD depths (number (f .graves) p) 0) (e ∙ a .2) in let y = a .1 .1 in omega arith)
 
     -- ---- a new seed
 

@@ -1,7 +1,7 @@
 -- The turns of the search's loops, with the cells as the code leaves them.
 use mathlib.Core.Path.{_≡_, refl, sym, ap, ap₂, subst, subst₂, subst₃, _∙_}
-use mathlib.Core.Logic.{_⊎_, inl, inr, _≢_}
-use mathlib.Core.List.{List, [], _∷_}
+use mathlib.Core.Logic.{_≢_}
+use mathlib.Core.List.{List}
 use Prim.Native.Nat.{ℕ, _+_, _-_, _*_, _/_, _%_, _≤_, _<_}
 use native.Mathlib.Omega.{arith}
 use native.Mathlib.Nat.{mul-sub}
@@ -10,9 +10,8 @@ use Rattle.std.proofs.shelf.Bits.{mul-le, div-add-mod', div-below, mod-below}
 use Rattle.finds.specs.Finds.{Finds, Pair}
 use Rattle.clashes.specs.Colours.{Proper}
 use Rattle.clashes.specs.Rings.{Joint}
-use Rattle.grounds.specs.Notes.{number, numbered, Seen, Notes, Entered, beside, Working, Forked}
-use Rattle.grounds.proofs.Numbers.{number-below}
-use Rattle.grounds.proofs.Steps.{begun, skipped, planted, tail-few}
+use Rattle.grounds.specs.Notes.{number, numbered, Notes, Entered, beside, Working, Forked}
+use Rattle.grounds.proofs.Steps.{skipped, planted, tail-few}
 use Rattle.grounds.proofs.AtWork.{painted, other-colour, one-colour}
 
 -- There are fewer pairs of different graves than cells.

@@ -3,20 +3,20 @@ use mathlib.Core.Path.{_≡_, refl, sym, ap, subst, _∙_}
 use mathlib.Core.Logic.{_⊎_, inl, inr, ⊎-elim}
 use mathlib.Core.Bool.{Bool, true, false, false≢true, _||_}
 use mathlib.Core.List.{List}
-use Prim.Native.Nat.{ℕ, zero, suc, _+_, _*_, _/_, _%_, _^_, max, _≤_, _<_}
+use Prim.Native.Nat.{ℕ, zero, suc, _+_, _/_, _%_, _^_, max, _≤_, _<_}
 use native.Mathlib.Omega.{arith}
-use native.Mathlib.Decide.{decLt, ℕ-discrete}
+use native.Mathlib.Decide.{ℕ-discrete}
 use native.Mathlib.Nat.{pow-suc}
 use lib.Bits.{bitOr, or-step}
 use lib.Dec.{eqb}
 use lib.ListN.{length, getD}
-use borrow.Author.Tests.{eqb-true, eqb-false, eq-eqb, ne-eqb}
+use borrow.Author.Tests.{ne-eqb}
 use Rattle.finds.specs.Sets.{bit, has}
 use Rattle.grounds.specs.Checking.{Decided}
 use Rattle.grounds.specs.Neighbours.{Clashing}
 use Rattle.tables.specs.Format.{finds-of-sets}
 use Rattle.grounds.proofs.KindSets.{Parting, in-sets, parts-in, parting-of}
-use Rattle.grounds.proofs.Clashing.{decided-yes, decided-no, decided-as}
+use Rattle.grounds.proofs.Clashing.{decided-no, decided-as}
 
 -- ---- bits
 

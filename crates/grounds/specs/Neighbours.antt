@@ -1,7 +1,7 @@
 -- The pairs that clash with a pair, found by sets of graves.
 use mathlib.Core.Path.{_≡_}
 use mathlib.Core.Logic.{_⊎_}
-use Prim.Native.Nat.{ℕ, _*_, _≤_, _<_}
+use Prim.Native.Nat.{ℕ, _*_, _<_}
 use denote.Ref.{now}
 use Rattle.finds.specs.Finds.{Finds, Pair}
 use Rattle.finds.specs.Sets.{has}

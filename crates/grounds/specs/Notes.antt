@@ -34,19 +34,22 @@ abbrev pub noted : Finds → (Pair → Pair) → List ℕ → List ℕ → Pair 
 noted f seed depths parents p =
     let x = number (f .graves) p in record { seed = seed p; parent = numbered (f .graves) (getD parents x 0); depth = getD depths x 0 - 1 }
 
--- What holds between two pairs of the queue; all pairs with a lower number than `below` are seen.
+-- What holds from one pair of the queue to the next. All pairs with a lower number than `below` are seen.
 pub record Notes (f : Finds) (below : ℕ) (depths parents queue : List ℕ) (head tail : ℕ) : Type 0 where
+  -- The seed of each pair, and that of the component at work.
   pub seed : Pair → Pair
   pub source : Pair
   pub search : Search f source (Seen f depths) (Queued f queue head) (noted f seed depths parents)
   pub passed : (p : Pair) → Proper f p → Seen f depths p ⊎ (below ≤ number (f .graves) p)
+  -- The queue holds just the pairs that are seen, none twice.
   pub found : (p : Pair) → Seen f depths p → Queued f queue tail p
   pub queued : (i : ℕ) → i < tail → (p : Pair) × Seen f depths p × (getD queue i 0 ≡ number (f .graves) p)
   pub apart : (i j : ℕ) → i < j → j < tail → getD queue i 0 ≢ getD queue j 0
+  -- No pair is deeper than there are pairs seen.
   pub shallow : (p : Pair) → Proper f p → getD depths (number (f .graves) p) 0 ≤ tail
   pub ordered : head ≤ tail
 
--- One pair more is seen: its cells, and the end of the queue.
+-- One pair more is noted: its depth and its parent in its cells, and its number at the end of the queue.
 pub record Entered (x parent depth tail : ℕ) (depths parents queue depths′ parents′ queue′ : List ℕ) : Type 0 where
   pub depths-are : depths′ ≡ set depths x depth
   pub parents-are : parents′ ≡ set parents x parent

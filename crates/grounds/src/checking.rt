@@ -1,11 +1,10 @@
 // The checker of a ring from elsewhere.
-ghost use Prim.Native.Nat.{ℕ, _+_, _*_, _/_, _≤_, _<_};
+ghost use Prim.Native.Nat.{_/_, _<_};
 ghost use Rattle.clashes.specs.Rings.{Joint, Parts, after, at};
-ghost use Rattle.grounds.specs.Checking.{Decided, finds-in-table, Small, said, pairs-of, Ill, Well-below, First-ill, Bad-ring, Good-ring, Judged, Ring-answer};
+ghost use Rattle.grounds.specs.Checking.{Decided, finds-in-table, Small, said, pairs-of, Ill, Well-below, First-ill, Good-ring, Judged, Ring-answer};
 ghost use Rattle.std.specs.Options.{Cases as BySome};
 ghost use Rattle.finds.specs.Finds.{Clash};
 ghost use lib.ListN.{length};
-ghost use mathlib.Core.Bool.{true, false};
 ghost use mathlib.Core.Path.{_≡_};
 use crate::pairs::Pair;
 use crate::verdict::RingVerdict;

@@ -2,8 +2,8 @@
 pub mod checking;
 pub mod finding;
 mod neighbours;
-pub mod pairs;
+mod pairs;
 mod readback;
 mod search;
-pub mod sets;
+mod sets;
 pub mod verdict;

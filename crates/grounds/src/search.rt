@@ -1,5 +1,5 @@
 // The search among the pairs of graves, in lent cells: from pair to clashing pair, the ones seen first going first.
-ghost use Prim.Native.Nat.{ℕ, _*_, _≤_, _<_};
+ghost use Prim.Native.Nat.{ℕ, _≤_, _<_};
 ghost use Rattle.grounds.specs.Neighbours.{finds-in-sets};
 ghost use Rattle.grounds.specs.Notes.{Entered};
 ghost use Rattle.grounds.specs.Searching.{Sized, Searched};

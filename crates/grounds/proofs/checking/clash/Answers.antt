@@ -1,4 +1,4 @@
-use mathlib.Core.Logic.{inl, inr, ⊎-elim}
+use mathlib.Core.Logic.{⊎-elim}
 use borrow.Author.Tests.{eq-eqb, ne-eqb}
 use Rattle.grounds.specs.Checking.{finds-in-table, said}
 use Rattle.grounds.proofs.Clashing.{decided-yes, decided-no, decided-as, well-proper, clash-asks, clash-turned, clash-parted}

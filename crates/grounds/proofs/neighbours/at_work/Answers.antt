@@ -1,9 +1,6 @@
-use Prim.Native.Nat.{ℕ}
 use mathlib.Core.Path.{refl}
 use native.Mathlib.Omega.{arith}
-use Rattle.clashes.specs.Colours.{Proper}
 use Rattle.grounds.specs.Neighbours.{finds-in-sets}
-use Rattle.grounds.specs.Notes.{numbered}
 use Rattle.grounds.proofs.Numbers.{split-proper, split-number, split-below}
 use Rattle.grounds.proofs.neighbours.at_work.Needs as need
 

@@ -1,6 +1,6 @@
 use mathlib.Core.Path.{sym, subst, _∙_}
 use mathlib.Core.Bool.{true≢false}
-use Prim.Native.Nat.{ℕ, _+_}
+use Prim.Native.Nat.{_+_}
 use native.Mathlib.Omega.{arith}
 use Rattle.std.proofs.shelf.Bits.{one-shl}
 use Rattle.grounds.proofs.Unions.{Union, union-none, union-more, union-same, union-all}
