@@ -1,30 +1,15 @@
-// seriate TABLE: prints the tree of the orders of the graves that fit a table of finds, and their number.
-// So far it answers for tables in which no kind lies in two graves.
-ghost use Prim.Native.Nat.{ℕ, _/_, _^_, _≤_, _<_};
-ghost use Rattle.seriate.specs.Counting.{factorial};
-ghost use Rattle.std.specs.Numbers.{Checked};
-ghost use Rattle.tables.specs.Format.{kind-set};
-ghost use lib.Count.{ones};
-ghost use lib.ListN.{length};
-ghost use mathlib.Core.Bool.{true, false};
-ghost use mathlib.Core.Path.{_≡_};
+// seriate TABLE: prints the tree of the orders of the graves that fit a table of finds, their number, and what is certain; or, where none fits, a ring of pairs that contradict each other.
+use grounds::finding::find_ring;
+use report::refusal_text;
+use report::ring_text;
+use report::tree_text;
+use seriation::building::build;
+use seriation::built::Built;
 use std::env;
 use std::error::AnyError;
 use std::fs;
-use std::io;
-use tables::reading::kind_at;
-use tables::reading::read;
-use tables::refusal::Refusal;
-use tables::room::Room;
-use tables::stored::Table;
-
-// Memory for 24 graves and 40 kinds.
-const ROOM: Room = Room {
-    branches: 47,
-    kinds: 40,
-    colours: 576,
-    rings: 1104,
-};
+use trees::checked::is_tree;
+use trees::rows::View;
 
 // How a run ends: with an answer, or turned away after what was printed.
 #[derive(Drop)]
@@ -33,91 +18,99 @@ enum Ending {
     TurnedAway,
 }
 
-// Whether some kind lies in two graves or more.
-fn tied(kinds: &[u8]) -> bool
-    requires { ⌜ length (now kinds) ≤ 1024 ⌝ }
-    ensures some { λ r. ⌜ (r ≡ true → (i : ℕ) × (i < length (now (kinds .entry)) / 8) × (2 ≤ ones (kind-set (now (kinds .entry)) i))) ⌝ }
-    ensures none { λ r. ⌜ (r ≡ false → (i : ℕ) → i < length (now (kinds .entry)) / 8 → ones (kind-set (now (kinds .entry)) i) < 2) ⌝ }
-{
-    for i in 0..kinds.len() / 8 {
-        if kind_at(kinds, i).count_ones() >= 2 {
-            return true;
-        }
+// Prints the answer for a table with a tree in these rows.
+fn tell_tree(rt: &LibcRuntime, view: View, count: usize, graves: u8) -> Result<Ending, AnyError> {
+    if !is_tree(view, count) {
+        return Err("the rows hold no tree".into());
     }
-    false
-}
-
-// The number of orders of n graves, if it is below 2^64.
-fn orders(n: u8) -> Option<u64>
-    ensures { λ r. ⌜ Checked r (factorial n < 2 ^ 64) (factorial n) ⌝ }
-{
-    let mut product = 1u64;
-    for i in 0..n {
-        let Some(more) = product.checked_mul(i as u64 + 1) else {
-            return None;
-        };
-        product = more;
-    }
-    Some(product)
-}
-
-// Prints the tree of n graves that may stand in any order.
-fn print_free(rt: &LibcRuntime, n: u8) -> io::Result<()> {
-    if n == 1 {
-        return println!(rt, "0");
-    }
-    print!(rt, "{{0")?;
-    for g in 1..n {
-        print!(rt, " {g}")?;
-    }
-    println!(rt, "}}")
-}
-
-// Prints the answer for a table in which no kind lies in two graves; of another, a sentence on stderr.
-fn tell(rt: &LibcRuntime, table: Table) -> io::Result<Ending> {
-    if table.kinds.len() > 1024 || tied(table.kinds) {
-        eprintln!(
-            rt,
-            "seriate: tables with a kind in two graves or more cannot be answered yet"
-        )?;
-        return Ok(Ending::TurnedAway);
-    }
-    print_free(rt, table.graves)?;
-    match orders(table.graves) {
-        Some(count) => println!(rt, "orders {count}")?,
-        None => println!(rt, "orders many")?,
-    }
+    let text = tree_text(rt.alloc(), view, count, graves)?;
+    print!(rt, "{text}")?;
     Ok(Ending::Answered)
 }
 
-fn run(rt: &LibcRuntime) -> io::Result<Ending> {
+// Prints a ring that shows that no order fits these kinds.
+fn tell_ring(rt: &LibcRuntime, kinds: &[u64], graves: u8) -> Result<Ending, AnyError> {
+    let mut depths = [0u16; 576];
+    let mut origins = [0u16; 576];
+    let mut queue = [0u16; 576];
+    let mut ring = [0u8; 1104];
+    let n = graves as usize;
+    if n == 0 || n > 24 || n * n > 576 || 2 * (n * (n - 1)) > 1104 {
+        return Err("more graves than memory is lent for".into());
+    }
+    let Some(pairs) = find_ring(
+        kinds,
+        graves,
+        &mut depths,
+        &mut origins,
+        &mut queue,
+        &mut ring,
+    ) else {
+        return Err("no ring was found".into());
+    };
+    if pairs > 552 {
+        return Err("the ring is longer than the memory that is lent for it".into());
+    }
+    let text = ring_text(rt.alloc(), &ring[0..2 * pairs])?;
+    print!(rt, "{text}")?;
+    Ok(Ending::Answered)
+}
+
+// Prints the answer for the file of a table, in memory for 24 graves and 40 kinds.
+fn answer(rt: &LibcRuntime, file: &[u8]) -> Result<Ending, AnyError> {
+    let mut parents = [0u8; 47];
+    let mut sorts = [0u8; 47];
+    let mut places = [0u8; 47];
+    let mut sets = [0u64; 47];
+    let mut kinds = [0u64; 40];
+    let graves = file.first().copied().unwrap_or(0);
+    let many = file.get(1).copied().unwrap_or(0).min(40) as usize;
+    match build(
+        file,
+        &mut parents,
+        &mut sorts,
+        &mut places,
+        &mut sets,
+        &mut kinds,
+    ) {
+        Ok(Built::Tree { count, .. }) => {
+            let view = View {
+                parents: &parents,
+                sorts: &sorts,
+                places: &places,
+                sets: &sets,
+            };
+            tell_tree(rt, view, count, graves)
+        }
+        Ok(Built::NoOrder { .. }) => tell_ring(rt, &kinds[0..many], graves),
+        Err(refusal) => {
+            let text = refusal_text(rt.alloc(), refusal)?;
+            print!(rt, "{text}")?;
+            Ok(Ending::TurnedAway)
+        }
+    }
+}
+
+fn run(rt: &LibcRuntime) -> Result<Ending, AnyError> {
     let mut args = env::args(rt)?;
     let _ = args.next();
     let (Some(path), None) = (args.next(), args.next()) else {
         eprintln!(rt, "seriate: wrong words. Call it as: seriate TABLE")?;
         return Ok(Ending::TurnedAway);
     };
-    let file = match fs::read(rt, path.as_str()) {
-        Ok(file) => file,
+    match fs::read(rt, path.as_str()) {
+        Ok(file) => answer(rt, file.as_slice()),
         Err(e) => {
             eprintln!(rt, "seriate: {path} cannot be read: {e}")?;
-            return Ok(Ending::TurnedAway);
-        }
-    };
-    match read(file.as_slice(), Some(ROOM)) {
-        Ok(table) => tell(rt, table),
-        Err(refusal) => {
-            let number = refusal.number();
-            let place = refusal.place();
-            println!(rt, "refused {number} at {place}")?;
             Ok(Ending::TurnedAway)
         }
     }
 }
 
 fn main(rt: LibcRuntime) -> Result<(), AnyError> {
-    match run(&rt)? {
-        Ending::Answered => Ok(()),
-        Ending::TurnedAway => Err("turned away".into()),
+    match run(&rt) {
+        Ok(Ending::Answered) => Ok(()),
+        Ok(Ending::TurnedAway) => Err("turned away".into()),
+        Err(e) => rt.report(Err(e)),
     }
 }
