@@ -47,3 +47,4 @@ text += ''.join('kind %d in %s\n' % (i, ' '.join(map(str, kind))) for i, kind in
 write('burial-ground.txt', text.encode())
 write('burial-ground.order', bytes(order))
 write('steps.order', bytes([1, 0, 2, 3, 4]))
+write('triangle.ring', bytes([0, 1, 1, 2, 2, 0]))

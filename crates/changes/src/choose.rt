@@ -16,7 +16,7 @@ pub enum Share {
     Full,
 }
 
-pub fn share_of(set: u64, mask: u64) -> Share
+pub(crate) fn share_of(set: u64, mask: u64) -> Share
     ensures { λ r. ⌜ r ≡ share set mask ⌝ }
 {
     let common = (set & mask).count_ones();
@@ -37,7 +37,7 @@ pub struct Bunch {
 }
 
 impl Bunch {
-    pub fn list(&self) -> &[u8]
+    pub(crate) fn list(&self) -> &[u8]
         requires { ⌜ now self .many ≤ 64 ⌝ }
         ensures { λ r. ⌜ now r ≡ listed (now (self .entry)) ⌝ }
     {
@@ -45,7 +45,7 @@ impl Bunch {
     }
 
     // The cells turned round.
-    pub fn turned(&self) -> Bunch
+    pub(crate) fn turned(&self) -> Bunch
         requires { ⌜ now self .many ≤ 64 ⌝ }
         ensures few { λ r. ⌜ r .many ≤ 64 ⌝ }
         ensures turned { λ r. ⌜ listed r ≡ reverse (listed (now (self .entry))) ⌝ }
@@ -60,7 +60,7 @@ impl Bunch {
 }
 
 // Those of the cells whose sets have this share of the mask, in their order.
-pub fn pick(sets: &[u64], cells: &[u8], mask: u64, want: Share) -> Bunch
+pub(crate) fn pick(sets: &[u64], cells: &[u8], mask: u64, want: Share) -> Bunch
     requires within { ⌜ All (λ c. c < length (now sets)) (now cells) ⌝ }
     requires few { ⌜ length (now cells) ≤ 64 ⌝ }
     ensures few { λ r. ⌜ r .many ≤ 64 ⌝ }
@@ -82,7 +82,7 @@ pub fn pick(sets: &[u64], cells: &[u8], mask: u64, want: Share) -> Bunch
 }
 
 // How many of the cells, from the first on, have nothing of the mask.
-pub fn empty_first(sets: &[u64], cells: &[u8], mask: u64) -> usize
+pub(crate) fn empty_first(sets: &[u64], cells: &[u8], mask: u64) -> usize
     requires { ⌜ All (λ c. c < length (now sets)) (now cells) ⌝ }
     ensures { λ r. ⌜ Empty-first (now (sets .entry)) mask (now (cells .entry)) r ⌝ }
 {
@@ -96,7 +96,7 @@ pub fn empty_first(sets: &[u64], cells: &[u8], mask: u64) -> usize
 }
 
 // Whether the cells come in sequence: those with nothing of the mask, at most one with a part of it, those with nothing else.
-pub fn in_sequence(sets: &[u64], cells: &[u8], mask: u64) -> bool
+pub(crate) fn in_sequence(sets: &[u64], cells: &[u8], mask: u64) -> bool
     requires { ⌜ All (λ c. c < length (now sets)) (now cells) ⌝ }
     ensures { λ r. ⌜ r ≡ in-order (now (sets .entry)) mask false (now (cells .entry)) ⌝ }
 {
@@ -113,7 +113,7 @@ pub fn in_sequence(sets: &[u64], cells: &[u8], mask: u64) -> bool
 }
 
 // The sets of the cells together.
-pub fn union(sets: &[u64], cells: &[u8]) -> u64
+pub(crate) fn union(sets: &[u64], cells: &[u8]) -> u64
     requires { ⌜ All (λ c. c < length (now sets)) (now cells) ⌝ }
     ensures { λ r. ⌜ r ≡ union-of (now (sets .entry)) (now (cells .entry)) ⌝ }
 {

@@ -33,7 +33,7 @@ pub struct Spot {
 }
 
 // Writes one cell.
-pub fn put(draft: &mut Draft, at: Spot, sort: u8, set: u64)
+pub(crate) fn put(draft: &mut Draft, at: Spot, sort: u8, set: u64)
     requires { ⌜ at .cell < 256 ⌝ }
     ensures kept { λ _. ⌜ Kept (drafted (now (draft .entry))) (drafted (now (draft .exit))) (at .cell) ⌝ }
     ensures there { λ _. ⌜ Headed (drafted (now (draft .exit))) at sort set ⌝ }
@@ -45,7 +45,7 @@ pub fn put(draft: &mut Draft, at: Spot, sort: u8, set: u64)
 }
 
 // Copies the part with its root in cell i to the spot; the spot behind it.
-pub fn copy(view: View, count: usize, i: usize, draft: &mut Draft, at: Spot) -> Spot
+pub(crate) fn copy(view: View, count: usize, i: usize, draft: &mut Draft, at: Spot) -> Spot
     requires stands { ⌜ Stands view count i ⌝ }
     requires room { ⌜ Room at (2 * ones (getD (now (view .sets)) i 0)) ⌝ }
     ensures kept { λ _. ⌜ Kept (drafted (now (draft .entry))) (drafted (now (draft .exit))) (at .cell) ⌝ }
@@ -70,7 +70,7 @@ pub fn copy(view: View, count: usize, i: usize, draft: &mut Draft, at: Spot) -> 
 }
 
 // Copies the parts with their roots in these cells to the spot, one behind the other; the spot behind them.
-pub fn copies(view: View, count: usize, cells: &[u8], draft: &mut Draft, at: Spot) -> Spot
+pub(crate) fn copies(view: View, count: usize, cells: &[u8], draft: &mut Draft, at: Spot) -> Spot
     requires stand { ⌜ All-stand view count (now cells) ⌝ }
     requires room { ⌜ Room at (2 * weight (now (view .sets)) (now cells)) ⌝ }
     ensures kept { λ _. ⌜ Kept (drafted (now (draft .entry))) (drafted (now (draft .exit))) (at .cell) ⌝ }
@@ -84,7 +84,7 @@ pub fn copies(view: View, count: usize, cells: &[u8], draft: &mut Draft, at: Spo
 }
 
 // Where the first branch goes of a branch that is written at this spot.
-pub fn inside(at: Spot) -> Spot
+pub(crate) fn inside(at: Spot) -> Spot
     requires { ⌜ at .cell < 256 ⌝ }
     ensures { λ r. ⌜ r ≡ first-in at ⌝ }
 {
@@ -96,7 +96,7 @@ pub fn inside(at: Spot) -> Spot
 }
 
 // Copies the parts with their roots in these cells to the spot as one branch at most: of two or more a new one, in which they may stand in any order. The spot behind it.
-pub fn group(view: View, count: usize, cells: &[u8], draft: &mut Draft, at: Spot) -> Spot
+pub(crate) fn group(view: View, count: usize, cells: &[u8], draft: &mut Draft, at: Spot) -> Spot
     requires stand { ⌜ All-stand view count (now cells) ⌝ }
     requires room { ⌜ Room at (2 * weight (now (view .sets)) (now cells) + 1) ⌝ }
     ensures kept { λ _. ⌜ Kept (drafted (now (draft .entry))) (drafted (now (draft .exit))) (at .cell) ⌝ }

@@ -37,7 +37,7 @@ pub struct Layout {
 }
 
 // The branches of cell i, in their order.
-pub fn branches_of(view: View, count: usize, i: usize) -> Bunch
+pub(crate) fn branches_of(view: View, count: usize, i: usize) -> Bunch
     requires { ⌜ Stands view count i ⌝ }
     ensures stand { λ r. ⌜ All-stand (view .entry) count (listed r) ⌝ }
     ensures branches { λ r. ⌜ ((t : Tree) → Part (seen (view .entry)) count i t → Bunched (view .entry) count r (kids t)) ⌝ }
@@ -48,7 +48,7 @@ pub fn branches_of(view: View, count: usize, i: usize) -> Bunch
 }
 
 // The cells apart by their share of the mask: those with nothing of it first, those with a part of it in the middle, those with nothing else last.
-pub fn set_apart(sets: &[u64], cells: &[u8], mask: u64) -> Layout
+pub(crate) fn set_apart(sets: &[u64], cells: &[u8], mask: u64) -> Layout
     requires within { ⌜ All (λ c. c < length (now sets)) (now cells) ⌝ }
     requires few { ⌜ length (now cells) ≤ 64 ⌝ }
     ensures { λ r. ⌜ Apart (now (sets .entry)) mask (now (cells .entry)) r ⌝ }
@@ -61,7 +61,7 @@ pub fn set_apart(sets: &[u64], cells: &[u8], mask: u64) -> Layout
 }
 
 // The cells in sequence, as they are or turned round.
-pub fn sequence(sets: &[u64], cells: Bunch, mask: u64) -> Option<Bunch>
+pub(crate) fn sequence(sets: &[u64], cells: Bunch, mask: u64) -> Option<Bunch>
     requires within { ⌜ All (λ c. c < length (now sets)) (listed cells) ⌝ }
     requires few { ⌜ cells .many ≤ 64 ⌝ }
     ensures { λ r. ⌜ In-sequence (now (sets .entry)) mask (listed cells) r ⌝ }
@@ -77,7 +77,7 @@ pub fn sequence(sets: &[u64], cells: Bunch, mask: u64) -> Option<Bunch>
 }
 
 // The layout of the part with its root in cell i, which is partial; None where it cannot be laid open.
-pub fn lay_out(view: View, count: usize, i: usize, mask: u64) -> Option<Layout>
+pub(crate) fn lay_out(view: View, count: usize, i: usize, mask: u64) -> Option<Layout>
     requires { ⌜ Stands view count i ⌝ }
     ensures { λ r. ⌜ ((k : ℕ → Bool) (b : Bool) → Mask k b mask → (t : Tree) → Part (seen (view .entry)) count i t → Sound t → status k t ≡ part → Layout-of (view .entry) count k b t r) ⌝ }
 {
@@ -104,7 +104,7 @@ pub fn lay_out(view: View, count: usize, i: usize, mask: u64) -> Option<Layout>
 }
 
 // Lays the part with its root in cell i open at the spot: what has nothing of the mask first, what has nothing else last. The spot behind it, or None where it cannot be done.
-pub fn lay_open(
+pub(crate) fn lay_open(
     view: View,
     count: usize,
     i: usize,
@@ -135,7 +135,7 @@ pub fn lay_open(
 }
 
 // Lays the parts with their roots in these cells open at the spot, one behind the other; the spot behind them, or None where they do not come in sequence or one cannot be laid open.
-pub fn lay_all(
+pub(crate) fn lay_all(
     view: View,
     count: usize,
     cells: &[u8],

@@ -29,7 +29,7 @@ use trees::rows::Sort;
 use trees::rows::View;
 
 // Branches in a row: those without the kind as they are, the first one with it laid open from empty to full, the rest from full to empty.
-pub fn row_part(
+pub(crate) fn row_part(
     view: View,
     count: usize,
     i: usize,
@@ -61,7 +61,7 @@ pub fn row_part(
 }
 
 // Partial branches and full ones, bound together: the full ones alone; or the row of the first partial one, the full ones as one branch, and at most one partial one more.
-pub fn bind(
+pub(crate) fn bind(
     view: View,
     count: usize,
     partials: &[u8],
@@ -99,7 +99,7 @@ pub fn bind(
 }
 
 // Branches in any order: those without the kind as they are, and among them one branch for all that have it.
-pub fn any_part(
+pub(crate) fn any_part(
     view: View,
     count: usize,
     i: usize,
@@ -129,7 +129,7 @@ pub fn any_part(
 }
 
 // Writes the part with its root in cell i, changed for the kind, into the draft from cell o on, as the branch of parent at this place: the cell behind it, or None where no order fits.
-pub fn rebuild(
+pub(crate) fn rebuild(
     view: View,
     count: usize,
     i: usize,

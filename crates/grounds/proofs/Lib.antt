@@ -10,3 +10,4 @@ pub mod Unions
 pub mod Turns
 pub mod Climbing
 pub mod Rings
+pub mod Answering

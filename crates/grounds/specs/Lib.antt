@@ -4,3 +4,4 @@ pub mod Neighbours
 pub mod Searching
 pub mod Reading
 pub mod Finding
+pub mod Whole

@@ -1,13 +1,13 @@
 // seriate TABLE: prints the tree of the orders of the graves that fit a table of finds, their number, and what is certain; or, where none fits, a ring of pairs that contradict each other.
-use grounds::finding::find_ring;
+use grounds::outcome::Outcome;
+use grounds::whole::seriate;
 use report::refusal_text;
 use report::ring_text;
 use report::tree_text;
-use seriation::building::build;
-use seriation::built::Built;
 use std::env;
 use std::error::AnyError;
 use std::fs;
+use tables::refusal::Refusal;
 use trees::checked::is_tree;
 use trees::rows::View;
 
@@ -28,32 +28,20 @@ fn tell_tree(rt: &LibcRuntime, view: View, count: usize, graves: u8) -> Result<E
     Ok(Ending::Answered)
 }
 
-// Prints a ring that shows that no order fits these kinds.
-fn tell_ring(rt: &LibcRuntime, kinds: &[u64], graves: u8) -> Result<Ending, AnyError> {
-    let mut depths = [0u16; 576];
-    let mut origins = [0u16; 576];
-    let mut queue = [0u16; 576];
-    let mut ring = [0u8; 1104];
-    let n = graves as usize;
-    if n == 0 || n > 24 || n * n > 576 || 2 * (n * (n - 1)) > 1104 {
-        return Err("more graves than memory is lent for".into());
-    }
-    let Some(pairs) = find_ring(
-        kinds,
-        graves,
-        &mut depths,
-        &mut origins,
-        &mut queue,
-        &mut ring,
-    ) else {
-        return Err("no ring was found".into());
-    };
-    if pairs > 552 {
+// Prints the ring that shows that no order fits.
+fn tell_ring(rt: &LibcRuntime, ring: &[u8], pairs: usize) -> Result<Ending, AnyError> {
+    if pairs > ring.len() / 2 {
         return Err("the ring is longer than the memory that is lent for it".into());
     }
     let text = ring_text(rt.alloc(), &ring[0..2 * pairs])?;
     print!(rt, "{text}")?;
     Ok(Ending::Answered)
+}
+
+fn tell_refusal(rt: &LibcRuntime, refusal: Refusal) -> Result<Ending, AnyError> {
+    let text = refusal_text(rt.alloc(), refusal)?;
+    print!(rt, "{text}")?;
+    Ok(Ending::TurnedAway)
 }
 
 // Prints the answer for the file of a table, in memory for 24 graves and 40 kinds.
@@ -63,31 +51,33 @@ fn answer(rt: &LibcRuntime, file: &[u8]) -> Result<Ending, AnyError> {
     let mut places = [0u8; 47];
     let mut sets = [0u64; 47];
     let mut kinds = [0u64; 40];
-    let graves = file.first().copied().unwrap_or(0);
-    let many = file.get(1).copied().unwrap_or(0).min(40) as usize;
-    match build(
+    let mut depths = [0u16; 576];
+    let mut origins = [0u16; 576];
+    let mut queue = [0u16; 576];
+    let mut ring = [0u8; 1104];
+    match seriate(
         file,
         &mut parents,
         &mut sorts,
         &mut places,
         &mut sets,
         &mut kinds,
+        &mut depths,
+        &mut origins,
+        &mut queue,
+        &mut ring,
     ) {
-        Ok(Built::Tree { count, .. }) => {
+        Ok(Outcome::Tree { count, .. }) => {
             let view = View {
                 parents: &parents,
                 sorts: &sorts,
                 places: &places,
                 sets: &sets,
             };
-            tell_tree(rt, view, count, graves)
+            tell_tree(rt, view, count, file.first().copied().unwrap_or(0))
         }
-        Ok(Built::NoOrder { .. }) => tell_ring(rt, &kinds[0..many], graves),
-        Err(refusal) => {
-            let text = refusal_text(rt.alloc(), refusal)?;
-            print!(rt, "{text}")?;
-            Ok(Ending::TurnedAway)
-        }
+        Ok(Outcome::Ground { pairs }) => tell_ring(rt, &ring, pairs),
+        Err(refusal) => tell_refusal(rt, refusal),
     }
 }
 
