@@ -1,5 +1,7 @@
-// bench FILE ROUNDS [time]: builds the trees of all tables of a file, one behind the other, so many times over.
-// It prints how many have a tree and how many have no order; with the word time, microseconds for each build too.
+// bench tree FILE ROUNDS [time], bench whole FILE ROUNDS [time]: answers all tables of a file, one behind the other, so many times over, by the tree alone or by the whole call.
+// It prints how many have a tree and how many have no order; with the word time, nanoseconds for each table too.
+use grounds::outcome::Outcome;
+use grounds::whole::seriate;
 use seriation::building::build;
 use seriation::built::Built;
 use std::env;
@@ -58,8 +60,46 @@ fn build_one(file: &[u8], tally: Tally) -> Tally {
     }
 }
 
-// Builds the trees of all tables once.
-fn build_all(bytes: &[u8], mut tally: Tally) -> Tally {
+// The whole call on one table.
+fn seriate_one(file: &[u8], tally: Tally) -> Tally {
+    let mut parents = [0u8; 127];
+    let mut sorts = [0u8; 127];
+    let mut places = [0u8; 127];
+    let mut sets = [0u64; 127];
+    let mut kinds = [0u64; 128];
+    let mut depths = [0u16; 4096];
+    let mut origins = [0u16; 4096];
+    let mut queue = [0u16; 4096];
+    let mut ring = [0u8; 8064];
+    match seriate(
+        file,
+        &mut parents,
+        &mut sorts,
+        &mut places,
+        &mut sets,
+        &mut kinds,
+        &mut depths,
+        &mut origins,
+        &mut queue,
+        &mut ring,
+    ) {
+        Ok(Outcome::Tree { .. }) => Tally {
+            trees: tally.trees.saturating_add(1),
+            ..tally
+        },
+        Ok(Outcome::Ground { .. }) => Tally {
+            none: tally.none.saturating_add(1),
+            ..tally
+        },
+        Err(_) => Tally {
+            refused: tally.refused.saturating_add(1),
+            ..tally
+        },
+    }
+}
+
+// Answers all tables once.
+fn answer_all(bytes: &[u8], whole: bool, mut tally: Tally) -> Tally {
     let mut at = 0usize;
     for _ in 0..bytes.len() {
         if at >= bytes.len() {
@@ -72,7 +112,12 @@ fn build_all(bytes: &[u8], mut tally: Tally) -> Tally {
         if length > rest.len() {
             return tally;
         }
-        tally = build_one(&rest[0..length], tally);
+        let table = &rest[0..length];
+        tally = if whole {
+            seriate_one(table, tally)
+        } else {
+            build_one(table, tally)
+        };
         at = at.saturating_add(length);
     }
     tally
@@ -81,9 +126,10 @@ fn build_all(bytes: &[u8], mut tally: Tally) -> Tally {
 fn run(rt: &LibcRuntime) -> Result<(), AnyError> {
     let mut args = env::args(rt)?;
     let _ = args.next();
-    let (Some(path), Some(rounds)) = (args.next(), args.next()) else {
-        return Err("call it as: bench FILE ROUNDS [time]".into());
+    let (Some(what), Some(path), Some(rounds)) = (args.next(), args.next(), args.next()) else {
+        return Err("call it as: bench tree|whole FILE ROUNDS [time]".into());
     };
+    let whole = what.as_str() == "whole";
     let rounds = rounds.as_str().parse::<u32>()?;
     let timed = args.next().is_some();
     let bytes = fs::read(rt, path.as_str())?;
@@ -94,7 +140,7 @@ fn run(rt: &LibcRuntime) -> Result<(), AnyError> {
     };
     let start = Instant::now(rt)?;
     for _ in 0..rounds {
-        tally = build_all(bytes.as_slice(), tally);
+        tally = answer_all(bytes.as_slice(), whole, tally);
     }
     let elapsed = start.elapsed(rt)?.as_nanos();
     let Tally {
