@@ -2,7 +2,7 @@
 use Rattle.std.proofs.Common.{◌≡◌, ℕ, ◌-◌, ◌*◌, ◌≤◌, List, take, drop, string_bytes, sym, ap, ◌∙◌, subst, arith}
 use Rattle.finds.specs.Finds.{Finds}
 use Rattle.finds.proofs.Size.{few_nodes}
-use Rattle.rings.specs.Checking.{pairs_of}
+use Rattle.grounds.specs.Checking.{pairs_of}
 use Rattle.grounds.specs.Whole.{Held, memory_of, ATree, AGround, Answer}
 use Rattle.grounds.specs.declared.outcome.Outcome.{Outcome}
 use Rattle.grounds.specs.declared.outcome.Outcome.TheVariants.{Tree, Ground}

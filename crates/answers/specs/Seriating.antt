@@ -4,7 +4,7 @@ use Rattle.finds.specs.Exactness.{Exactly, SomeFits, NoneFits}
 use Rattle.finds.specs.Finds.{Finds, Ground}
 use Rattle.finds.specs.Trees.{Tree, Good}
 use Rattle.clashes.specs.Rings.{Ring}
-use Rattle.rings.specs.Checking.{pairs_of}
+use Rattle.grounds.specs.Checking.{pairs_of}
 use Rattle.report.specs.Answer.{ring_answer, refusal_answer}
 use Rattle.report.specs.Tells.{Tells}
 use Rattle.tables.specs.Format.{graves_of, kind_count, finds_of}

@@ -1,11 +1,11 @@
 -- What `verify` prints for the bytes of two files.
 use Rattle.std.specs.Prelude.{ℕ, List, Ok, Err, Result}
-use Rattle.rings.specs.Checking.{RingAnswer}
-use Rattle.rings.specs.declared.verdict.RingVerdict.{RingVerdict}
+use Rattle.grounds.specs.Checking.{RingAnswer}
+use Rattle.grounds.specs.declared.verdict.RingVerdict.{RingVerdict}
 use Rattle.report.specs.Answer.{refusal_answer, order_verdict_answer, ring_verdict_answer}
-use Rattle.orders.specs.Checking.{OrderAnswer}
+use Rattle.tables.specs.Orders.{OrderAnswer}
 use Rattle.tables.specs.declared.refusal.Refusal.{Refusal}
-use Rattle.orders.specs.declared.verdict.Verdict.{Verdict}
+use Rattle.tables.specs.declared.verdict.Verdict.{Verdict}
 use Rattle.answers.specs.Printing.{Prints}
 use Rattle.answers.specs.declared.printed.Printed.{Printed}
 

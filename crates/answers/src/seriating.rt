@@ -5,7 +5,7 @@ ghost use Rattle.std.specs.Prelude.{IfOk};
 use crate::printed::{Printed, answered, turned_away};
 use grounds::outcome::Outcome;
 use grounds::whole::seriate;
-use report::{ring_text, tree_text};
+use report::{ring_text, whole_tree_text};
 use std::alloc::{AllocError, Global};
 use trees::rows::View;
 
@@ -42,7 +42,7 @@ pub fn seriate_text(heap: Global, file: &[u8]) -> Result<Printed, AllocError>
                     places: &places,
                     sets: &sets,
                 };
-                Ok(answered(tree_text(heap, view, count)?))
+                Ok(answered(whole_tree_text(heap, view, count)?))
             }
             Outcome::Ground { pairs } => Ok(answered(ring_text(heap, &ring[0..2 * pairs])?)),
         },

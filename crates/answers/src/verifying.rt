@@ -3,9 +3,9 @@ ghost use Rattle.answers.specs.Verifying.{OrderChecked, RingChecked};
 ghost use Rattle.std.specs.Prelude.{IfOk};
 
 use crate::printed::{Printed, answered, turned_away};
-use orders::checking::verify_order;
+use tables::orders::verify_order;
 use report::{order_verdict_text, ring_verdict_text};
-use rings::checking::verify_ring;
+use grounds::checking::verify_ring;
 use std::alloc::{AllocError, Global};
 
 // What is printed of an order from elsewhere for the file of a table: that it fits, or what it tears, or a refusal. Or want of memory for the text.

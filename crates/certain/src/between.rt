@@ -8,7 +8,7 @@ ghost use Rattle.certain.specs.Answering.{CertainAnswer};
 ghost use Rattle.certain.specs.Shown.{Shows};
 
 use trees::checked::is_tree;
-use trees::rows::{Sort, View};
+use trees::rows::View;
 use trees::walk::branch_with;
 
 // Whether y is between x and z.
@@ -18,18 +18,8 @@ fn is_amid(x: usize, y: usize, z: usize) -> bool
     x < y && y < z || z < y && y < x
 }
 
-// Whether b is certain to lie between a and c, for the finds whose orders the tree in the first `count` cells allows; None if the cells hold no tree.
-pub fn is_certain(view: View, count: usize, a: u8, b: u8, c: u8) -> Option<bool>
-    ensures { CertainAnswer view.entry count a b c result }
-{
-    if !is_tree(view, count) {
-        return None;
-    }
-    Some(decide(view, count, a, b, c))
-}
-
-// The same where there is a tree: the three graves part at a row of it, and there b's branch is between theirs.
-fn decide(view: View, count: usize, a: u8, b: u8, c: u8) -> bool
+// Whether b is certain to lie between a and c: they part at a row of the tree, and there b's branch is between theirs.
+pub fn is_certain(view: View, count: usize, a: u8, b: u8, c: u8) -> bool
     requires { TreeIn view count }
     ensures { (f : Finds) (t : Tree) → Shows view.entry count f t → Decides result (Between f a b c) }
 {
@@ -45,8 +35,18 @@ fn decide(view: View, count: usize, a: u8, b: u8, c: u8) -> bool
             return false;
         };
         if x != y || y != z {
-            return view.sorts[i] == Sort::Row as u8 && is_amid(x, y, z);
+            return view.sorts[i] == 2 && is_amid(x, y, z);
         }
         i = y;
     }
+}
+
+// Whether b is certain to lie between a and c, for the finds whose orders the tree in the first `count` cells allows; None if the cells hold no tree.
+pub fn certain_answer(view: View, count: usize, a: u8, b: u8, c: u8) -> Option<bool>
+    ensures { CertainAnswer view.entry count a b c result }
+{
+    if !is_tree(view, count) {
+        return None;
+    }
+    Some(is_certain(view, count, a, b, c))
 }

@@ -61,24 +61,8 @@ pub fn nearest(view: View, count: usize, b: u8) -> Option<Neighbours>
     best
 }
 
-// Writes for each grave of the tree in the first `count` cells the two nearest between which it is certain to lie, the one before it and the one behind it, or 255 in both if there are none; answers how many graves there are.
-// None, and nothing changed, if the cells hold no tree, or one with more graves than there is room for.
-pub fn all_nearest(view: View, count: usize, before: &mut [u8], behind: &mut [u8]) -> Option<usize>
-    ensures { NearAnswer view.entry count before.old behind.old before.new behind.new result }
-{
-    if !is_tree(view, count) {
-        return None;
-    }
-    let graves = graves_at(view, count, 0);
-    if before.len() < graves || behind.len() < graves {
-        return None;
-    }
-    write_nearest(view, count, graves as u8, before, behind);
-    Some(graves)
-}
-
-// The same for the graves 0 to n - 1, where there is a tree, and room.
-fn write_nearest(view: View, count: usize, n: u8, before: &mut [u8], behind: &mut [u8])
+// Writes for each of the graves 0 to n - 1 the two nearest between which it is certain to lie, the one before it and the one behind it; 255 in both if there are none.
+pub fn all_nearest(view: View, count: usize, n: u8, before: &mut [u8], behind: &mut [u8])
     requires tree { TreeIn view count }
     requires room { (n ≤ length before.old) × (n ≤ length behind.old) }
     ensures told { (f : Finds) (t : Tree) → Shows view.entry count f t → (b : ℕ) → b < n → Written f (graves t) b (slice_index before.new b) (slice_index behind.new b) }
@@ -102,4 +86,20 @@ fn written(found: Option<Neighbours>) -> Neighbours
             behind: 255,
         },
     }
+}
+
+// Writes for each grave of the tree in the first `count` cells the two nearest between which it is certain to lie, the one before it and the one behind it, or 255 in both if there are none; answers how many graves there are.
+// None, and nothing changed, if the cells hold no tree, or one with more graves than there is room for.
+pub fn nearest_answer(view: View, count: usize, before: &mut [u8], behind: &mut [u8]) -> Option<usize>
+    ensures { NearAnswer view.entry count before.old behind.old before.new behind.new result }
+{
+    if !is_tree(view, count) {
+        return None;
+    }
+    let graves = graves_at(view, count, 0);
+    if before.len() < graves || behind.len() < graves {
+        return None;
+    }
+    all_nearest(view, count, graves as u8, before, behind);
+    Some(graves)
 }

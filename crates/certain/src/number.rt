@@ -10,7 +10,7 @@ ghost use Rattle.certain.specs.Counting.{product, Counted};
 ghost use Rattle.certain.specs.Factors.{factor};
 ghost use Rattle.certain.specs.Shown.{Shows};
 
-use trees::rows::{Sort, View};
+use trees::rows::View;
 
 // What cell i adds to the number of orders.
 fn factor_at(view: View, count: usize, i: usize) -> u64
@@ -18,12 +18,8 @@ fn factor_at(view: View, count: usize, i: usize) -> u64
     requires within { i < count }
     ensures { result ≡ factor (seen view.entry) i }
 {
-    let own = if view.sorts[i] == Sort::Row as u8 {
-        2
-    } else {
-        1
-    };
-    if i > 0 && view.sorts[view.parents[i] as usize] == Sort::Any as u8 {
+    let own = if view.sorts[i] == 2 { 2 } else { 1 };
+    if i > 0 && view.sorts[view.parents[i] as usize] == 1 {
         own * (view.places[i] as u64 + 1)
     } else {
         own

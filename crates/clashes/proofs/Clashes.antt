@@ -65,7 +65,7 @@ module _ {f : Finds} where
   opposed p h = turned h.0 h.1 h.2
 
   -- All that clashes with a pair (a,b): (b,a); (b,c) where some kind lay in a and c and not in b; and (c,a) where some kind lay in c and b and not in a.
-  -- So a traversal that has looked at these has looked at all: P is what it knows of each of them.
+  -- So a search that has looked at these has looked at all: P is what it knows of each of them.
   pub neighbour : {p q : Pair} → Joint f p q → (P : Pair → Type 0) → P (op p) → ((c : ℕ) → Parts f p.first p.second c → P (pair p.second c)) →
       ((c : ℕ) → Parts f c p.first p.second → P (pair c p.first)) → P q
   neighbour (inl (turned la lb ne)) P o l r = o

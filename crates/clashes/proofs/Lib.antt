@@ -10,5 +10,5 @@ pub mod Orders
 pub mod Chains
 pub mod Cut
 pub mod Short
-pub mod Traversal
+pub mod Search
 pub mod Readback

@@ -10,7 +10,7 @@ use Rattle.finds.specs.Parity.{odd}
 use Rattle.finds.proofs.Parity.{odd_rest}
 use Rattle.clashes.specs.Colours.{Proper}
 use Rattle.clashes.specs.Rings.{Joint, Chain, none, link, Lacks, Once, Ring}
-use Rattle.clashes.specs.Traversal.{Mark, Child, Root, Rooted, Under, Legs}
+use Rattle.clashes.specs.Search.{Mark, Child, Root, Rooted, Under, Legs}
 use Rattle.clashes.proofs.Clashes.{same_pair, joint_op}
 use Rattle.clashes.proofs.Chains.{chain_append, chain_proper, ring}
 use Rattle.clashes.proofs.Short.{pairs_few}

@@ -1,4 +1,4 @@
--- Two colours for the pairs of graves, so that clashing pairs differ: what a traversal among the clashes leaves if it closes no odd ring.
+-- Two colours for the pairs of graves, so that clashing pairs differ: what a search among the clashes leaves if it closes no odd ring.
 use Rattle.std.specs.Prelude.{◌≡◌, ℕ, ◌<◌, ◌≤◌, Bool, not, ◌≢◌}
 use Rattle.finds.specs.Finds.{Finds, Pair, Clash, Walk}
 use Rattle.finds.specs.Parity.{odd}
@@ -21,7 +21,7 @@ pub record Reach (f : Finds) (b : Bool) (p q : Pair) : Type 0 where
   pub walk : Walk f steps p q
   pub parity : odd steps ≡ b
 
--- What a traversal notes of a pair: its colour, false for "so", and its seed, the pair from which the colouring came to it.
+-- What a search notes of a pair: its colour, false for "so", and its seed, the pair from which the colouring came to it.
 pub record Label : Type 0 where
   pub seed : Pair
   pub col : Bool

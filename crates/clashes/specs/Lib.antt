@@ -1,4 +1,4 @@
 pub mod Colours
 pub mod Rings
 pub mod Theorems
-pub mod Traversal
+pub mod Search

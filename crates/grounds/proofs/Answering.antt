@@ -12,7 +12,7 @@ use Rattle.pqtree.specs.Theorems.{Stands}
 use Rattle.pqtree.proofs.Growth.{kind_by_kind}
 use Rattle.tables.specs.declared.stored.Table.{Table}
 use Rattle.grounds.specs.Finding.{RingIn}
-use Rattle.grounds.specs.Whole.{Held, ColoursKept, ColoursCleared, ATree, AGround}
+use Rattle.grounds.specs.Whole.{Held, Unsearched, Searched, ATree, AGround}
 
 -- What is not below is at least so large.
 pub at_least : (x y : ℕ) → (x < y → ⊥) → y ≤ x
@@ -33,12 +33,12 @@ same_finds file t many ks of e =
     let z : many - 0 ≡ many = omega arith in
     ap (λ (k : ℕ). finds_of_sets t.graves (take k ks)) z ∙ sym e ∙ of.finds_are
 
-pub tree_of : (f g : Finds) (before after : Held) (root count : ℕ) → g ≡ f → Builds g before.rows after.rows (TreeBuilt root count) → ColoursKept before after → ATree f root count before after
+pub tree_of : (f g : Finds) (before after : Held) (root count : ℕ) → g ≡ f → Builds g before.rows after.rows (TreeBuilt root count) → Unsearched before after → ATree f root count before after
 tree_of f g before after root count e b u =
     let o = (subst (λ (h : Finds). Builds h before.rows after.rows (TreeBuilt root count)) e b).outcome in
     record { root_is = o.0; standing = o.1.0; exact = o.1.1; some = o.2; else = u }
 
-pub ground_of : (f g : Finds) (before after : Held) (kind pairs : ℕ) → g ≡ f → Builds g before.rows after.rows (NoOrder kind) → RingIn g pairs before.ring after.ring → ColoursCleared g.graves before after → AGround f pairs before after
+pub ground_of : (f g : Finds) (before after : Held) (kind pairs : ℕ) → g ≡ f → Builds g before.rows after.rows (NoOrder kind) → RingIn g pairs before.ring after.ring → Searched g.graves before after → AGround f pairs before after
 ground_of f g before after kind pairs e b r s =
     let o = (subst (λ (h : Finds). Builds h before.rows after.rows (NoOrder kind)) e b).outcome in
     let ring = subst (λ (h : Finds). RingIn h pairs before.ring after.ring) e r in
@@ -50,7 +50,7 @@ ground_of f g before after kind pairs e b r s =
       found = o.2;
       count = o.3.0;
       standing = o.3.1;
-      else = subst (λ (h : Finds). ColoursCleared h.graves before after) e s;
+      else = subst (λ (h : Finds). Searched h.graves before after) e s;
     }
 
 pub sets_of_file : (file : List ℕ) (t : Table) (many : ℕ) (before ks : List ℕ) → TableOf file t → many ≡ length t.kinds.now / 8 →

@@ -6,9 +6,9 @@ use Rattle.std.proofs.lemmas.List.{get_or-set_same}
 use Rattle.finds.specs.Finds.{Finds, Pair}
 use Rattle.clashes.specs.Colours.{pair, op, Proper}
 use Rattle.clashes.specs.Rings.{Joint}
-use Rattle.clashes.specs.Traversal.{Mark, Differ, Legs}
+use Rattle.clashes.specs.Search.{Mark, Differ, Legs}
 use Rattle.clashes.proofs.Clashes.{same_pair, opposed, parted, joint_op, joint_left, neighbour}
-use Rattle.clashes.proofs.Traversal.{paint, look, finish}
+use Rattle.clashes.proofs.Search.{paint, look, finish}
 use Rattle.clashes.proofs.Readback.{start}
 use Rattle.grounds.specs.Notes.{number, numbered, Seen, Queued, noted, Notes, beside, Working, Forked}
 use Rattle.grounds.proofs.Numbers.{numbered_number, same_number}
@@ -30,7 +30,7 @@ module _ {f : Finds} {below : ℕ} {depths parents queue : List ℕ} {head tail 
 
   -- It is of the component at work, since it is not done.
   source_p : k.seed p ≡ k.source
-  source_p = ⊎_elim (λ h. absurd (k.apart h.1.0 head h.1.1 w.waits (h.1.2 ∙ sym w.here))) (λ e. e) (k.traversal.waits p seen_p)
+  source_p = ⊎_elim (λ h. absurd (k.apart h.1.0 head h.1.1 w.waits (h.1.2 ∙ sym w.here))) (λ e. e) (k.search.waits p seen_p)
 
   -- A pair met that does not clash with it, or has the other colour, asks for nothing.
   met_more : (Joint f p q → Seen f depths q × Differ (mark p) (mark q)) → Working f below depths parents queue head tail p (place + 1)
@@ -46,7 +46,7 @@ module _ {f : Finds} {below : ℕ} {depths parents queue : List ℕ} {head tail 
   no_clash h = met_more (λ j. absurd (h j))
 
   one_seed : Joint f p q → Seen f depths q → k.seed q ≡ k.seed p
-  one_seed j s = look k.traversal p q seen_p source_p j s
+  one_seed j s = look k.search p q seen_p source_p j s
 
   pub other_colour : Joint f p q → 1 ≤ get_or depths (number f.graves q) 0 → get_or depths (number f.graves q) 0 % 2 ≢ get_or depths (number f.graves p) 0 % 2 →
       Working f below depths parents queue head tail p (place + 1)
@@ -57,7 +57,7 @@ module _ {f : Finds} {below : ℕ} {depths parents queue : List ℕ} {head tail 
       Forked f depths parents (number f.graves p) (number f.graves q)
   one_colour j l d = record {
     seed = k.seed;
-    rooted = k.traversal.rooted;
+    rooted = k.search.rooted;
     p = p;
     q = q;
     left_is = refl;
@@ -113,7 +113,7 @@ module _ {f : Finds} {below : ℕ} {depths parents queue : List ℕ} {head tail 
 
       notes' : Notes f below (depths' k v) (parents' k v) (queue' k v) head (tail + 1)
       notes' = entered k v below (let z = k.shallow p w.proper in omega arith)
-          (paint k.traversal p q (adds k v) seen_p source_p j (λ h. let z = h.1 in omega arith) seed_q parent_q depth_q)
+          (paint k.search p q (adds k v) seen_p source_p j (λ h. let z = h.1 in omega arith) seed_q parent_q depth_q)
           (λ r h. ⊎_elim (λ s. inl (keeps k v r s)) inr (k.passed r h))
 
 module _ {f : Finds} {below : ℕ} {depths parents queue : List ℕ} {head tail : ℕ} where
@@ -122,7 +122,7 @@ module _ {f : Finds} {below : ℕ} {depths parents queue : List ℕ} {head tail 
   done {p} w = record {
     seed = k.seed;
     source = k.source;
-    traversal = finish k.traversal p (seen_p w) all now_done;
+    search = finish k.search p (seen_p w) all now_done;
     passed = k.passed;
     found = k.found;
     queued = k.queued;

@@ -8,7 +8,7 @@ use Rattle.clashes.proofs.Clashes.{first_of, second_of, opposed, parted, other_w
 use Rattle.grounds.specs.Neighbours.{Beyond, Clashing}
 use Rattle.grounds.specs.Notes.{number, beside}
 use Rattle.grounds.proofs.Numbers.{number_below}
-use Rattle.rings.proofs.Clashing.{decided_true, decided_false}
+use Rattle.grounds.proofs.Clashing.{decided_true, decided_false}
 
 -- Below n stand the pairs that go on from it, and then those that lead up to it.
 pub beside_on : (n : ℕ) (p : Pair) (k : ℕ) → k < n → pair p.second k ≡ beside n p k

@@ -6,7 +6,7 @@ use Rattle.std.proofs.ByRecursion.{All-get_or}
 use Rattle.finds.specs.Finds.{Finds, Pair}
 use Rattle.clashes.specs.Colours.{pair, Proper}
 use Rattle.clashes.specs.Rings.{Ring}
-use Rattle.clashes.specs.Traversal.{Mark}
+use Rattle.clashes.specs.Search.{Mark}
 use Rattle.clashes.proofs.Chains.{chain_proper}
 use Rattle.clashes.proofs.Readback.{met, legs_short, up_left, up_right}
 use Rattle.grounds.specs.Notes.{number, numbered, noted, Climbing, Forked}

@@ -5,9 +5,9 @@ use native.Mathlib.Decide.{dec_lt}
 use Rattle.std.proofs.lemmas.List.{get_or-set_same, get_or-set_other}
 use Rattle.finds.specs.Finds.{Finds, Pair}
 use Rattle.clashes.specs.Colours.{Proper}
-use Rattle.clashes.specs.Traversal.{Traversal, Adds}
+use Rattle.clashes.specs.Search.{Search, Adds}
 use Rattle.clashes.proofs.Clashes.{same_pair}
-use Rattle.clashes.proofs.Traversal.{same_mark}
+use Rattle.clashes.proofs.Search.{same_mark}
 use Rattle.grounds.specs.Notes.{number, numbered, Seen, Queued, noted, Notes}
 use Rattle.grounds.proofs.Numbers.{same_number}
 
@@ -83,13 +83,13 @@ module _ {f : Finds} {below : ℕ} {depths parents queue : List ℕ} {head tail 
         (ap (λ (z : ℕ). z - 1) (get_or-set_other depths x y v.depth 0 o));
   }
 
-  -- The notes after it, if the traversal goes on with them.
-  abbrev pub entered : (low : ℕ) → v.depth ≤ tail + 1 → Traversal f v.s (Seen f depths') (Queued f queue' head) (noted f (seeded k.seed q v.s) depths' parents') →
+  -- The notes after it, if the search goes on with them.
+  abbrev pub entered : (low : ℕ) → v.depth ≤ tail + 1 → Search f v.s (Seen f depths') (Queued f queue' head) (noted f (seeded k.seed q v.s) depths' parents') →
       ((p : Pair) → Proper f p → Seen f depths' p ⊎ (low ≤ number f.graves p)) → Notes f low depths' parents' queue' head (tail + 1)
-  entered low deep traversal passed = record {
+  entered low deep search passed = record {
     seed = seeded k.seed q v.s;
     source = v.s;
-    traversal = traversal;
+    search = search;
     passed = passed;
     found = λ p h. ⊎_elim (λ o. later p (k.found p o)) (λ e. (h.0, (tail, omega arith, last ∙ ap (number f.graves) (sym e)))) (only p h);
     queued = λ i h. place i h (dec_lt i tail);

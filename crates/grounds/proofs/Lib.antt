@@ -1,4 +1,6 @@
-pub mod WrittenPairs
+pub mod KindSets
+pub mod RingBytes
+pub mod Clashing
 pub mod Numbers
 pub mod Entering
 pub mod Steps

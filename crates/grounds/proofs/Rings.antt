@@ -6,11 +6,11 @@ use Rattle.std.proofs.lemmas.Slice.{take-put_mid, drop-put_mid, drop-append-drop
 use Rattle.finds.specs.Finds.{Finds, Pair}
 use Rattle.finds.proofs.Laws.{ground_law}
 use Rattle.clashes.proofs.Chains.{closes_ground}
-use Rattle.rings.specs.Checking.{pairs_of}
+use Rattle.grounds.specs.Checking.{pairs_of}
 use Rattle.grounds.specs.Finding.{RingIn}
 use Rattle.grounds.specs.Notes.{numbered}
 use Rattle.grounds.specs.Reading.{Closed}
-use Rattle.rings.proofs.RingBytes.{pairs_append}
+use Rattle.grounds.proofs.RingBytes.{pairs_append}
 
 module _ (f : Finds) {queue : List ℕ} {left right : ℕ} (c : Closed f queue left right) where
   abbrev rest : ℕ

@@ -1,4 +1,4 @@
--- The steps of the traversal on its cells.
+-- The steps of the search on its cells.
 use Rattle.std.proofs.Common.{◌≡◌, ℕ, zero, suc, ◌+◌, ◌-◌, ◌*◌, ◌<◌, ◌≤◌, ◌≢◌, ◌⊎◌, List, [], ◌∷◌, length, get_or, set, sym, refl, ap, ◌∙◌, subst, inl, inr, ⊎_elim, arith}
 use mathlib.Core.Logic.{if_pos}
 use native.Mathlib.Decide.{ℕ_discrete}
@@ -9,10 +9,10 @@ use Rattle.finds.specs.Finds.{Finds, Pair}
 use Rattle.finds.specs.Exactness.{SomeFits}
 use Rattle.clashes.specs.Colours.{pair, Proper}
 use Rattle.clashes.specs.Rings.{at, Once}
-use Rattle.clashes.specs.Traversal.{Mark, Traversal}
+use Rattle.clashes.specs.Search.{Mark, Search}
 use Rattle.clashes.proofs.Clashes.{same_pair}
 use Rattle.clashes.proofs.Orders.{order_of}
-use Rattle.clashes.proofs.Traversal.{begin, next, plant, colours}
+use Rattle.clashes.proofs.Search.{begin, next, plant, colours}
 use Rattle.clashes.proofs.Short.{pairs_few}
 use Rattle.grounds.specs.Notes.{number, numbered, Seen, Queued, noted, Notes}
 use Rattle.grounds.proofs.Numbers.{numbered_number, number_below}
@@ -24,7 +24,7 @@ module _ (f : Finds) where
   begun depths parents queue none = record {
     seed = λ p. p;
     source = pair 0 0;
-    traversal = begin (noted f (λ p. p) depths parents) unseen (λ p h. (let l = h.1.1 in omega arith));
+    search = begin (noted f (λ p. p) depths parents) unseen (λ p h. (let l = h.1.1 in omega arith));
     passed = λ p h. inr (omega arith);
     found = λ p h. absurd (unseen p h);
     queued = λ i h. absurd (omega arith);
@@ -104,7 +104,7 @@ module _ (f : Finds) where
     skipped h = record {
       seed = k.seed;
       source = k.source;
-      traversal = k.traversal;
+      search = k.search;
       passed = passes depths (λ p s. s) h;
       found = k.found;
       queued = k.queued;
@@ -125,9 +125,9 @@ module _ (f : Finds) where
         v : Fresh f depths queue tail
         v = record { q = q; proper = proper; unseen = unseen; room = room; cell = cell; s = q; up = up; depth = 1; some = omega arith }
 
-        fresh : Traversal f q (Seen f depths) (Queued f queue head) mark
-        fresh = next k.traversal q (all_done idle) (λ p h. ⊎_elim inl (λ l. inr (firsts p q h (omega arith))) (k.passed p h))
+        fresh : Search f q (Seen f depths) (Queued f queue head) mark
+        fresh = next k.search q (all_done idle) (λ p h. ⊎_elim inl (λ l. inr (firsts p q h (omega arith))) (k.passed p h))
 
     -- All pairs are seen and done, so that some order fits.
     pub ended : below ≡ f.graves * f.graves → head ≡ tail → SomeFits f
-    ended e idle = order_of f (colours k.traversal (λ p h. ⊎_elim (λ s. s) (λ l. absurd (let z = number_below f p h in omega arith)) (k.passed p h)) (all_done idle))
+    ended e idle = order_of f (colours k.search (λ p h. ⊎_elim (λ s. s) (λ l. absurd (let z = number_below f p h in omega arith)) (k.passed p h)) (all_done idle))

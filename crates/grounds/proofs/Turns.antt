@@ -1,4 +1,4 @@
--- The turns of the loops of the traversal, with the cells as the code leaves them.
+-- The turns of the search's loops, with the cells as the code leaves them.
 use Rattle.std.proofs.Common.{◌≡◌, ℕ, ◌+◌, ◌-◌, ◌*◌, ◌/◌, ◌%◌, ◌<◌, ◌≤◌, ◌≢◌, List, length, get_or, set, sym, refl, ap, ◌∙◌, subst, ap₂, subst₂, arith}
 use mathlib.Core.Path.{subst₃}
 use native.Mathlib.Nat.{mul-sub}

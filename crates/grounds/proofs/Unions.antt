@@ -4,11 +4,11 @@ use mathlib.Core.Bool.{false≢true}
 use native.Mathlib.Decide.{ℕ_discrete}
 use lib.Bits.{bit_or, or_step}
 use Rattle.finds.specs.Sets.{bit, has}
-use Rattle.rings.specs.Checking.{Decided}
+use Rattle.grounds.specs.Checking.{Decided}
 use Rattle.grounds.specs.Neighbours.{Clashing}
 use Rattle.tables.specs.Format.{finds_of_sets}
-use Rattle.rings.proofs.KindSets.{Parting, in_sets, parts_in, parting_of}
-use Rattle.rings.proofs.Clashing.{decided_no, decided_as}
+use Rattle.grounds.proofs.KindSets.{Parting, in_sets, parts_in, parting_of}
+use Rattle.grounds.proofs.Clashing.{decided_no, decided_as}
 
 -- ---- bits
 

@@ -1,9 +1,9 @@
--- What the traversal for a ring promises: a ring or some order that fits, and what the lent memory holds then.
+-- What the search for a ring promises: a ring or some order that fits, and what the lent memory holds then.
 use Rattle.std.specs.Prelude.{◌≡◌, ℕ, ◌-◌, ◌*◌, ◌≤◌, List, ◌++◌, length, take, drop, replicate, Some, None, Option}
 use Rattle.finds.specs.Finds.{Finds}
 use Rattle.finds.specs.Exactness.{SomeFits, NoneFits}
 use Rattle.clashes.specs.Rings.{Ring}
-use Rattle.rings.specs.Checking.{pairs_of}
+use Rattle.grounds.specs.Checking.{pairs_of}
 
 -- The first two bytes for each of m pairs are a ring, and all bytes behind them are as they were; so no order fits.
 pub record RingIn (f : Finds) (m : ℕ) (before bytes : List ℕ) : Type 0 where

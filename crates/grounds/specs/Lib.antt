@@ -1,6 +1,7 @@
+pub mod Checking
 pub mod Notes
 pub mod Neighbours
-pub mod Colouring
+pub mod Searching
 pub mod Reading
 pub mod Finding
 pub mod Whole

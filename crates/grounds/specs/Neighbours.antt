@@ -4,7 +4,7 @@ use Rattle.finds.specs.Finds.{Finds, Pair}
 use Rattle.finds.specs.Sets.{has}
 use Rattle.clashes.specs.Colours.{Proper}
 use Rattle.clashes.specs.Rings.{Joint, Parts}
-use Rattle.rings.specs.Checking.{Decided, said}
+use Rattle.grounds.specs.Checking.{Decided, said}
 use Rattle.grounds.specs.Notes.{number, beside}
 use Rattle.tables.specs.Format.{finds_of_sets}
 use Rattle.grounds.specs.declared.neighbours.Work.{Work}

@@ -1,11 +1,11 @@
--- What the traversal for a ring notes in lent cells, and what it keeps true of them.
+-- What the search for a ring notes in lent cells, and what it keeps true of them.
 -- The cells are numbered as the pairs are. A cell of `depths` holds one more than the depth of its pair, and 0 for a pair that is not seen; a cell of `parents` holds the number of the pair's parent.
 -- `queue` holds the numbers of the pairs seen, in the order in which they were: those below `head` are done, and those from there to `tail` wait.
 use Rattle.std.specs.Prelude.{◌≡◌, ℕ, ◌+◌, ◌-◌, ◌*◌, ◌/◌, ◌%◌, ◌<◌, ◌≤◌, cond, ◌≢◌, ◌⊎◌, List, [], ◌∷◌, nat_lt, slice_index, slice_index_or, slice_set}
 use Rattle.finds.specs.Finds.{Finds, Pair}
 use Rattle.clashes.specs.Colours.{pair, Proper}
 use Rattle.clashes.specs.Rings.{Joint}
-use Rattle.clashes.specs.Traversal.{Mark, Rooted, Differ, Traversal, Legs}
+use Rattle.clashes.specs.Search.{Mark, Rooted, Differ, Search, Legs}
 
 -- The number of a pair of n graves, by first and then second grave.
 abbrev pub number : ℕ → Pair → ℕ
@@ -33,7 +33,7 @@ pub record Notes (f : Finds) (below : ℕ) (depths parents queue : List ℕ) (he
   -- The seed of each pair, and that of the component at work.
   pub seed : Pair → Pair
   pub source : Pair
-  pub traversal : Traversal f source (Seen f depths) (Queued f queue head) (noted f seed depths parents)
+  pub search : Search f source (Seen f depths) (Queued f queue head) (noted f seed depths parents)
   pub passed : (p : Pair) → Proper f p → Seen f depths p ⊎ (below ≤ number f.graves p)
   -- The queue holds just the pairs that are seen, none twice.
   pub found : (p : Pair) → Seen f depths p → Queued f queue tail p

@@ -1,4 +1,4 @@
--- A ring as it is read from the notes of the traversal.
+-- A ring as it is read from the notes of the search.
 use Rattle.std.specs.Prelude.{◌≡◌, ℕ, ◌+◌, ◌-◌, ◌*◌, ◌<◌, ◌≤◌, List, ◌++◌, map, length, take, drop, slice_index}
 use Rattle.finds.specs.Finds.{Finds}
 use Rattle.clashes.specs.Rings.{Ring}

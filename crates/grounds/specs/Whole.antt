@@ -1,5 +1,5 @@
 -- The whole promise: for each table that is taken a tree that allows exactly the orders that fit, or a ground.
-use Rattle.std.specs.Prelude.{◌≡◌, ℕ, zero, suc, ◌≤◌, min, List, length, Some, Ok, Err, Result}
+use Rattle.std.specs.Prelude.{◌≡◌, ℕ, suc, ◌≤◌, min, List, length, Some, Ok, Err, Result}
 use Rattle.finds.specs.Finds as finds
 use Rattle.finds.specs.Finds.{Finds}
 use Rattle.finds.specs.Exactness.{Exactly, SomeFits, NoneFits}
@@ -43,14 +43,14 @@ abbrev pub room_of : Held → Room
 room_of m = record { branches = shortest m.rows; kinds = length m.kinds; colours = min (length m.depths) (min (length m.origins) (length m.queue)); rings = length m.ring }
 
 -- What was lent for colours and rings is as it was.
-pub record ColoursKept (before now : Held) : Type 0 where
+pub record Unsearched (before now : Held) : Type 0 where
   pub depths : now.depths ≡ before.depths
   pub origins : now.origins ≡ before.origins
   pub queue : now.queue ≡ before.queue
   pub ring : now.ring ≡ before.ring
 
 -- The cells for colours have been cleared for n graves.
-pub record ColoursCleared (n : ℕ) (before now : Held) : Type 0 where
+pub record Searched (n : ℕ) (before now : Held) : Type 0 where
   pub depths : Cleared n before.depths now.depths
   pub origins : Cleared n before.origins now.origins
   pub queue : Cleared n before.queue now.queue
@@ -61,7 +61,7 @@ pub record ATree (f : Finds) (root count : ℕ) (before now : Held) : Type 0 whe
   pub standing : Standing f (length f.kinds) count before.rows now.rows
   pub exact : Exactly f standing.stage.tree
   pub some : SomeFits f
-  pub else : ColoursKept before now
+  pub else : Unsearched before now
 
 -- The ring's bytes are a ground, so no order fits. The rows hold the tree of the kinds before the first with which none fits.
 pub record AGround (f : Finds) (pairs : ℕ) (before now : Held) : Type 0 where
@@ -72,16 +72,12 @@ pub record AGround (f : Finds) (pairs : ℕ) (before now : Held) : Type 0 where
   pub found : NoneFits (first_kinds (suc kind) f)
   pub count : ℕ
   pub standing : Standing f kind count before.rows now.rows
-  pub else : ColoursCleared f.graves before now
+  pub else : Searched f.graves before now
 
--- Exactly one of the two, by the number and the values of the answer: 0, a tree, where some order fits; 1, a ground, where none does.
-abbrev pub AnswerBy : Finds → Held → Held → ℕ → ℕ × ℕ → Type 0
-AnswerBy f before now zero v = ATree f v.0 v.1 before now
-AnswerBy f before now (suc zero) v = AGround f v.0 before now
-AnswerBy f before now (suc (suc n)) v = ⊥
-
+-- Exactly one of the two: a tree, where some order fits; a ground, where none does.
 abbrev pub Answer : Finds → Held → Held → Outcome → Type 0
-Answer f before now r = AnswerBy f before now (number_of r) (values_of r)
+Answer f before now (Tree root count) = ATree f root count before now
+Answer f before now (Ground pairs) = AGround f pairs before now
 
 -- What the whole call answers for the bytes of a file: the first refusal that applies, with nothing changed; or the answer for its finds, while after each kind the tree stood for the kinds so far.
 abbrev pub Whole : List ℕ → Held → Held → Result Outcome Refusal → Type 0

@@ -1,13 +1,13 @@
-// Finding an odd ring of clashing pairs, in lent memory.
+// The search for an odd ring of clashing pairs, in lent memory.
 ghost use Rattle.std.specs.Prelude.{◌≡◌, ◌*◌, ◌≤◌, length, replicate};
 ghost use Rattle.grounds.specs.Finding.{Found, Cleared};
 ghost use Rattle.grounds.specs.Neighbours.{finds_in_sets};
 ghost use Rattle.tables.specs.Format.{finds_of_sets};
-ghost use Rattle.grounds.specs.Colouring.{Sized};
+ghost use Rattle.grounds.specs.Searching.{Sized};
 ghost use Rattle.tables.specs.Room.{colours_for, ring_for};
 
-use crate::colouring::colour;
 use crate::readback::read_back;
+use crate::search::search;
 use crate::sets::Sets;
 
 // A ring, found in just a cell for each pair and written into the lent bytes, or None if some order fits.
@@ -27,7 +27,7 @@ fn find(
     ensures queue_clear { queue.new ≡ replicate (sets.entry.graves * sets.entry.graves) 0 }
 {
     depths.fill(0);
-    let pairs = match colour(sets, depths, parents, queue) {
+    let pairs = match search(sets, depths, parents, queue) {
         Some(fork) => Some(read_back(sets, depths, parents, queue, fork, ring)),
         None => None,
     };
@@ -38,7 +38,7 @@ fn find(
 }
 
 // The number of pairs of an odd ring of the table with these kinds, whose pairs are written into `ring`, or None if some order fits.
-// The cells that are lent for colours are cleared at the end, so that what they hold is known.
+// The cells that are lent for the search are cleared at the end, so that what they hold is known.
 pub fn find_ring(
     kinds: &[u64],
     graves: u8,

@@ -1,10 +1,13 @@
-// Grounds: the traversal that finds an odd ring in lent memory, and the whole call from the file of a table to a tree or a ground.
-mod colouring;
+// Grounds: the checker of a ring from elsewhere, the search for an odd ring in lent memory, and the whole call from the file of a table to a tree or a ground.
+pub mod checking;
 pub mod finding;
 mod neighbours;
 pub mod outcome;
+mod pairs;
 mod readback;
+mod search;
 mod sets;
+pub mod verdict;
 pub mod whole;
 
 ghost use Rattle.finds.specs.Exactness.{TreeOrGround};

@@ -1,10 +1,10 @@
 // The pairs that clash with a pair.
 ghost use Rattle.std.specs.Prelude.{◌≡◌, ◌*◌, ◌<◌, ◌≤◌};
-ghost use Rattle.rings.specs.Checking.{said};
+ghost use Rattle.grounds.specs.Checking.{said};
 ghost use Rattle.grounds.specs.Neighbours.{finds_in_sets, Clashing, Numbers, AtWork, Meets};
 
+use crate::pairs::Pair;
 use crate::sets::Sets;
-use rings::pairs::Pair;
 use tables::sets::contains;
 
 // A pair with the number of its cell, the graves c for which it clashes with (second, c), and those for which it clashes with (c, first).
@@ -32,7 +32,7 @@ fn beyond(sets: Sets, a: u8, b: u8) -> u64
 }
 
 // The pair with this cell, ready for work.
-pub(crate) fn at_work(sets: Sets, cell: usize) -> Work
+pub fn at_work(sets: Sets, cell: usize) -> Work
     requires few { sets.graves ≤ 64 }
     requires known { Numbers (finds_in_sets sets) cell }
     ensures { (AtWork (finds_in_sets sets.entry) result) × (result.cell ≡ cell) }
@@ -51,7 +51,7 @@ pub(crate) fn at_work(sets: Sets, cell: usize) -> Work
 }
 
 // The cell of the pair that stands beside the one at work at a place, if the two clash: (second, c) at c, and (c, first) at n + c.
-pub(crate) fn neighbour(sets: Sets, work: Work, place: usize) -> Option<usize>
+pub fn neighbour(sets: Sets, work: Work, place: usize) -> Option<usize>
     requires few { sets.graves ≤ 64 }
     requires ready { AtWork (finds_in_sets sets) work }
     requires within { place < 2 * sets.graves }

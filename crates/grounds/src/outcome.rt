@@ -1,7 +1,7 @@
 // The whole answer for a table.
 
 // A tree, with the cell of its root and the count of its cells; or a ground, with the number of pairs of its ring.
-#[derive(Clone, Copy, Drop)]
+#[derive(Clone, Copy, PartialEq, Eq, Debug, Drop)]
 pub enum Outcome {
     Tree { root: usize, count: usize },
     Ground { pairs: usize },

@@ -1,14 +1,14 @@
-// The ring of two clashing pairs of one colour, read from the notes of the traversal.
+// The ring of two clashing pairs of one colour, read from the notes of the search.
 ghost use Rattle.std.specs.Prelude.{◌≡◌, ℕ, ◌*◌, ◌<◌, ◌≤◌, map, length, slice_index};
-ghost use Rattle.rings.specs.Checking.{pairs_of};
+ghost use Rattle.grounds.specs.Checking.{pairs_of};
 ghost use Rattle.grounds.specs.Finding.{RingIn};
 ghost use Rattle.grounds.specs.Neighbours.{finds_in_sets};
 ghost use Rattle.grounds.specs.Notes.{numbered, Forked};
 ghost use Rattle.grounds.specs.Reading.{Closed};
-ghost use Rattle.grounds.specs.Colouring.{Sized};
+ghost use Rattle.grounds.specs.Searching.{Sized};
 ghost use Rattle.tables.specs.Room.{ring_for};
 
-use crate::colouring::Fork;
+use crate::search::Fork;
 use crate::sets::Sets;
 
 // Where the two legs of a ring stand in the queue: the one below `left`, and the other from `right` on.
@@ -60,7 +60,7 @@ fn write(cells: &[u16], graves: u8, bytes: &mut [u8])
 }
 
 // Writes the ring of two clashing pairs of one colour, and tells how many pairs it has.
-pub(crate) fn read_back(
+pub fn read_back(
     sets: Sets,
     depths: &[u16],
     parents: &[u16],

@@ -3,10 +3,10 @@ use Rattle.std.specs.Prelude.{ℕ, zero, suc, ◌+◌, ◌*◌, ◌/◌, List, [
 use Rattle.finds.specs.Trees.{Tree}
 use Rattle.tables.specs.Refusals.{number_of, place_of}
 use Rattle.tables.specs.declared.refusal.Refusal.{Refusal}
-use Rattle.orders.specs.declared.verdict.Verdict.{Verdict}
-use Rattle.orders.specs.declared.verdict.Verdict.TheVariants.{Fitting, Torn}
-use Rattle.rings.specs.declared.verdict.RingVerdict.{RingVerdict}
-use Rattle.rings.specs.declared.verdict.RingVerdict.TheVariants.{Ground, NoClash}
+use Rattle.tables.specs.declared.verdict.Verdict.{Verdict}
+use Rattle.tables.specs.declared.verdict.Verdict.TheVariants.{Fitting, Torn}
+use Rattle.grounds.specs.declared.verdict.RingVerdict.{RingVerdict}
+use Rattle.grounds.specs.declared.verdict.RingVerdict.TheVariants.{Ground, NoClash}
 use Rattle.certain.specs.declared.neighbours.Neighbours.{Neighbours}
 use Rattle.text.specs.Show.{show}
 

@@ -10,25 +10,32 @@ ghost use Rattle.report.specs.Tells.{Tells, Lines};
 use certain::near::nearest;
 use certain::neighbours::Neighbours;
 use certain::number::orders;
-use orders::verdict::Verdict;
-use rings::verdict::RingVerdict;
+use grounds::verdict::RingVerdict;
 use std::alloc::{AllocError, Global};
 use tables::refusal::Refusal;
+use tables::verdict::Verdict;
 use text::text;
 use trees::rows::View;
 use trees::walk::graves_at;
 
-// The answer with the tree in the rows, or want of memory.
-pub fn tree_text(heap: Global, view: View, count: usize) -> Result<String, AllocError>
+// The answer with the tree in the rows, for so many graves, or want of memory.
+pub fn tree_text(heap: Global, view: View, count: usize, graves: u8) -> Result<String, AllocError>
     requires { TreeIn view count }
-    ensures { IfOk result (λ s. (f : Finds) (t : Tree) → Shows view.entry count f t → Tells f t (string_bytes s)) }
+    ensures { IfOk result (λ s. (f : Finds) (t : Tree) → Shows view.entry count f t → f.graves ≡ graves → Tells f t (string_bytes s)) }
 {
-    let graves = graves_at(view, count, 0);
     let mut out = text(heap, view, count)?;
     out.push_str("\n")?;
     write_orders(orders(view, count), &mut out)?;
-    write_nearest(view, count, graves as u8, &mut out)?;
+    write_nearest(view, count, graves, &mut out)?;
     Ok(out)
+}
+
+// The same for the graves of the tree.
+pub fn whole_tree_text(heap: Global, view: View, count: usize) -> Result<String, AllocError>
+    requires { TreeIn view count }
+    ensures { IfOk result (λ s. (f : Finds) (t : Tree) → Shows view.entry count f t → Tells f t (string_bytes s)) }
+{
+    tree_text(heap, view, count, graves_at(view, count, 0) as u8)
 }
 
 // Writes the line on the number of orders.

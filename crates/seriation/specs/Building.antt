@@ -1,5 +1,5 @@
 -- What building the tree of a table promises: of the rows, and of the answer.
-use Rattle.std.specs.Prelude.{◌≡◌, ℕ, zero, suc, ◌<◌, ◌≤◌, ◌⊎◌, List, length, take, drop, Some, Ok, Err, Result, slice_index}
+use Rattle.std.specs.Prelude.{◌≡◌, ℕ, suc, ◌<◌, ◌≤◌, ◌⊎◌, List, length, take, drop, Some, Ok, Err, Result, slice_index}
 use Rattle.finds.specs.Finds.{Finds}
 use Rattle.finds.specs.Trees.{Tree}
 use Rattle.finds.specs.Exactness.{Exactly, SomeFits, NoneFits}
@@ -67,14 +67,10 @@ pub record Standing (f : Finds) (j count : ℕ) (before rows : Lent) : Type 0 wh
   pub some : SomeFits (first_kinds j f)
   pub empty : Empty rows count (branches_for f.graves)
 
--- The answer for the finds, by its number and values. 0, a tree: it allows exactly the orders that fit, and there is one. 1, none: no order fits, already not with the kind that is told, while the tree in the rows stands for the kinds before it.
-abbrev pub Answer : Finds → Lent → Lent → ℕ → ℕ × ℕ → Type 0
-Answer f before rows zero v = (v.0 ≡ 0) × ((s : Standing f (length f.kinds) v.1 before rows) × Exactly f s.stage.tree) × SomeFits f
-Answer f before rows (suc zero) v = (v.0 < length f.kinds) × NoneFits f × NoneFits (first_kinds (suc v.0) f) × ((count : ℕ) × Standing f v.0 count before rows)
-Answer f before rows (suc (suc n)) v = ⊥
-
+-- The answer for the finds. A tree: it allows exactly the orders that fit, and there is one. None: no order fits, already not with the kind that is told, while the tree in the rows stands for the kinds before it.
 abbrev pub Outcome : Finds → Lent → Lent → Built → Type 0
-Outcome f before rows r = Answer f before rows (number_of r) (values_of r)
+Outcome f before rows (TreeBuilt root count) = (root ≡ 0) × ((s : Standing f (length f.kinds) count before rows) × Exactly f s.stage.tree) × SomeFits f
+Outcome f before rows (NoOrder kind) = (kind < length f.kinds) × NoneFits f × NoneFits (first_kinds (suc kind) f) × ((count : ℕ) × Standing f kind count before rows)
 
 -- What building promises: the answer, and that after each kind the tree stood for the kinds so far.
 pub record Builds (f : Finds) (before rows : Lent) (r : Built) : Type 0 where

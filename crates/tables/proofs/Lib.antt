@@ -1,3 +1,6 @@
 pub mod Reach
+pub mod Between
+pub mod Places
 pub mod KindList
+pub mod Judging
 pub mod Refusing

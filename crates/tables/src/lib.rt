@@ -1,9 +1,11 @@
-// Tables of finds: the reader of their files.
+// Tables of finds: the reader of their files, and the checker of an order from elsewhere.
+pub mod orders;
 pub mod reading;
 pub mod refusal;
 pub mod room;
 pub mod sets;
 pub mod stored;
+pub mod verdict;
 
 ghost use Rattle.tables.specs.Reading.{OneAnswer};
 

@@ -3,7 +3,7 @@ ghost use Rattle.tables.specs.Refusals.{number_of, place_of};
 ghost use Rattle.std.specs.Prelude.{◌≡◌};
 
 // What memory is lent for.
-#[derive(Clone, Copy, Drop)]
+#[derive(Clone, Copy, PartialEq, Eq, Debug, Drop)]
 pub enum Lent {
     Branches,
     Colours,
@@ -11,7 +11,7 @@ pub enum Lent {
 }
 
 // The reasons for turning something away, in the order of their numbers.
-#[derive(Clone, Copy, Drop)]
+#[derive(Clone, Copy, PartialEq, Eq, Debug, Drop)]
 pub enum Refusal {
     // no grave, or more than 64
     GraveCount,

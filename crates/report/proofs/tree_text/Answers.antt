@@ -1,4 +1,4 @@
-use Rattle.std.proofs.Common.{◌≡◌, ℕ, List, ◌++◌, Option, sym, ◌∙◌, append_assoc}
+use Rattle.std.proofs.Common.{◌≡◌, ℕ, List, ◌++◌, Option, sym, append_assoc}
 use Rattle.finds.specs.Finds.{Finds}
 use Rattle.finds.specs.Trees.{Tree}
 use Rattle.trees.specs.declared.rows.View.{View}
@@ -7,9 +7,7 @@ use Rattle.certain.specs.Shown.{Shows}
 use Rattle.text.specs.Show.{show}
 use Rattle.report.specs.Answer.{line_feed, orders_line, near_lines}
 use Rattle.report.specs.Tells.{Tells, Lines}
-use Rattle.trees.proofs.Checking.{tree_in_stands}
 use Rattle.report.proofs.Lines.{lines_all}
-use Rattle.certain.proofs.Sizes.{shown_size}
 use Rattle.report.proofs.tree_text.Goals as goal
 
 -- The tree, the end of its line, the number of orders, and the lines on the graves, one behind the other.
@@ -22,10 +20,7 @@ one_by_one v count n number f t s e k p q r lines =
     let h = append_assoc (show t) line_feed (orders_line number ++ l) in
     record { count = number; near = w.near; counted = k; told = w.told f t s; written = cc w.written }
 
-pub graves-at-graves-requires : goal.graves-at-graves-requires
-graves-at-graves-requires c = tree_in_stands c.requires
-
 pub returns : goal.returns
-returns c = λ f t s.
-    one_by_one c.args.view c.args.count c.graves-at-graves.result c.orders.result f t s (shown_size c.args.view s ∙ sym c.graves-at-graves.ensures.many) (c.orders.ensures.by-finds f t s)
+returns c = λ f t s e.
+    one_by_one c.args.view c.args.count c.args.graves c.orders.result f t s e (c.orders.ensures.by-finds f t s)
     (c.in-ok-out.ensures t s.holds s.sound) c.in-ok-push-str.ensures.bytes c.in-ok-write-orders.ensures c.in-ok-write-nearest.ensures

@@ -1,20 +1,27 @@
-use Rattle.std.proofs.Common.{sym, refl, ◌∙◌, arith}
-use Rattle.trees.proofs.Checking.{tree_in_stands, tree_in_size}
-use Rattle.certain.proofs.Sizes.{shown_size}
+use Rattle.std.proofs.Common.{◌≡◌, ℕ, ◌+◌, ◌<◌, ◌≢◌, List, length, get_or, set, Some, None, Option, sym, ◌∙◌, subst, inl, inr, arith, below_more, MatchOption}
+use Rattle.std.proofs.lemmas.List.{get_or-set_same, get_or-set_other, drop-set-lt}
+use Rattle.finds.specs.Finds.{Finds}
+use Rattle.certain.specs.Certain.{Nearest}
+use Rattle.certain.specs.Near.{Told, Written}
+use Rattle.certain.specs.declared.neighbours.Neighbours.{Neighbours}
 use Rattle.certain.proofs.near.all_nearest.Goals as goal
 
-pub graves-at-graves-requires : goal.graves-at-graves-requires
-graves-at-graves-requires c = tree_in_stands (c.if-not-is-tree.ensures.0 refl)
+-- What is written in two rows at i, and what was written before it.
+write_more : (P : ℕ → ℕ → ℕ → Type 0) (xs ys : List ℕ) (i v w : ℕ) → i < length xs → i < length ys → ((b : ℕ) → b < i → P b (get_or xs b 0) (get_or ys b 0)) → P i v w →
+    (b : ℕ) → b < i + 1 → P b (get_or (set xs i v) b 0) (get_or (set ys i w) b 0)
+write_more P xs ys i v w k l below here =
+    below_more (λ b. P b (get_or (set xs i v) b 0) (get_or (set ys i w) b 0)) i
+    (λ b h. let ne : b ≢ i = omega arith in rw (get_or-set_other xs i b v 0 ne, get_or-set_other ys i b w 0 ne) (below b h))
+    (rw (get_or-set_same xs i v 0 k, get_or-set_same ys i w 0 l) here)
 
-pub returns-then-before-graves : goal.returns-then-before-graves
-returns-then-before-graves c =
-    (refl, refl, λ h. let e = tree_in_size c.args.view h.tree h.holds h.sound in omega (arith, c.then-before-graves.either, c.graves-at-graves.ensures.many))
+told_written : (f : Finds) (l : List ℕ) (b : ℕ) (r : Option Neighbours) (p : Neighbours) → Told f l b r → MatchOption r ((p.before ≡ 255) × (p.behind ≡ 255)) (λ q. p ≡ q) → Written f l b p.before p.behind
+told_written f l b None p h k = inl (k.0, k.1, h)
+told_written f l b (Some q) p h k = inr (subst (λ (z : Neighbours). Nearest f l z.before b z.behind) (sym k) h)
 
-pub returns : goal.returns
-returns c =
-    let w = c.write-nearest.ensures in (
-      c.if-not-is-tree.ensures.0 refl,
-      (λ f t s. (c.graves-at-graves.ensures.many ∙ sym (shown_size c.args.view s), w.told f t s)),
-      w.rest.0,
-      w.rest.1,
-    )
+pub loop-b-preserved : goal.loop-b-preserved
+loop-b-preserved c = (
+  (λ f t s. write_more (Written f _) c.loop-b.before c.loop-b.behind c.loop-b.b _ _ (omega (arith, c.loop-b.auto.before, c.requires.room.0)) (omega (arith, c.loop-b.auto.behind, c.requires.room.1))
+      (c.loop-b.invariant.0 f t s) (told_written f _ c.loop-b.b c.nearest.result c.written-found.result (c.nearest.ensures f t s) c.written-found.ensures)),
+  drop-set-lt c.args.n c.loop-b.before c.loop-b.b _ (omega arith) ∙ c.loop-b.invariant.1,
+  drop-set-lt c.args.n c.loop-b.behind c.loop-b.b _ (omega arith) ∙ c.loop-b.invariant.2,
+)

@@ -1,5 +1,5 @@
 use Rattle.std.proofs.Common.{◌+◌, ◌-◌, ◌*◌, sym, ap, arith}
-use Rattle.rings.specs.Checking.{said}
+use Rattle.grounds.specs.Checking.{said}
 use Rattle.grounds.specs.Neighbours.{finds_in_sets}
 use Rattle.grounds.specs.Notes.{number}
 use Rattle.grounds.proofs.Beside.{beside_below, beside_on, beside_back, on_yes, on_no, back_yes, back_no}

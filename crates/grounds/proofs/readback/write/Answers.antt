@@ -1,6 +1,6 @@
 use Rattle.std.proofs.Common.{get_or, arith}
 use Rattle.std.proofs.lemmas.Nat.{div_below}
-use Rattle.grounds.proofs.WrittenPairs.{written_more, written_all}
+use Rattle.grounds.proofs.RingBytes.{written_more, written_all}
 use Rattle.grounds.proofs.readback.write.Goals as goal
 
 pub overflow-cast-bytes : goal.overflow-cast-bytes

@@ -1,4 +1,4 @@
-use Rattle.grounds.proofs.WrittenPairs.{Written}
+use Rattle.grounds.proofs.RingBytes.{Written}
 use Rattle.grounds.proofs.readback.write.Given as goal
 
 abbrev pub invariant-loop-i : goal.invariant-loop-i

@@ -1,0 +1,114 @@
+// Runs cases from stdin, one to a line, and prints what the checker of rings and the whole call answer.
+//   ring HEX HEX    the file of a table, and the bytes of a ring
+//   whole HEX       the file of a table: `tree`, `ground` if the ring that was found is accepted by the checker, else what went wrong
+use anyhow::anyhow;
+use grounds::checking::verify_ring;
+use grounds::outcome::Outcome;
+use grounds::verdict::RingVerdict;
+use grounds::whole::seriate;
+use std::alloc::{AllocError, Global};
+use tables::refusal::Refusal;
+
+// The value of a hexadecimal digit.
+fn nibble(digit: u8) -> Option<u8> {
+    match digit {
+        b'0'..=b'9' => Some(digit - b'0'),
+        b'a'..=b'f' => Some(digit - b'a' + 10),
+        _ => None,
+    }
+}
+
+// The bytes that two hexadecimal digits each stand for; `-` stands for none.
+fn bytes_of(heap: Global, text: &str) -> Result<Vec<u8>, AllocError> {
+    let mut bytes = Vec::new(heap);
+    let digits = text.as_bytes();
+    for i in 0..digits.len() / 2 {
+        if let (Some(high), Some(low)) = (nibble(digits[2 * i]), nibble(digits[2 * i + 1])) {
+            bytes.push((high & 15) * 16 + (low & 15))?;
+        }
+    }
+    Ok(bytes)
+}
+
+fn print_refusal(rt: &HostRuntime, refusal: Refusal) -> anyhow::Result<()> {
+    let number = refusal.number();
+    let place = refusal.place();
+    println!(rt; "refused {number} at {place}")?;
+    Ok(())
+}
+
+fn print_verdict(rt: &HostRuntime, answer: Result<RingVerdict, Refusal>) -> anyhow::Result<()> {
+    match answer {
+        Ok(RingVerdict::Ground) => println!(rt; "ground")?,
+        Ok(RingVerdict::NoClash { pair }) => println!(rt; "no clash at {pair}")?,
+        Err(refusal) => return print_refusal(rt, refusal),
+    }
+    Ok(())
+}
+
+// The whole call on a table, and the checker on the ring that it finds.
+fn print_whole(rt: &HostRuntime, file: &[u8]) -> anyhow::Result<()> {
+    let mut parents = [0u8; 127];
+    let mut sorts = [0u8; 127];
+    let mut places = [0u8; 127];
+    let mut sets = [0u64; 127];
+    let mut kinds = [0u64; 128];
+    let mut depths = [0u16; 4096];
+    let mut origins = [0u16; 4096];
+    let mut queue = [0u16; 4096];
+    let mut ring = [0u8; 8064];
+    match seriate(
+        file,
+        &mut parents,
+        &mut sorts,
+        &mut places,
+        &mut sets,
+        &mut kinds,
+        &mut depths,
+        &mut origins,
+        &mut queue,
+        &mut ring,
+    ) {
+        Ok(Outcome::Tree { .. }) => {
+            println!(rt; "tree")?;
+            Ok(())
+        }
+        Ok(Outcome::Ground { pairs }) => {
+            if pairs > 4032 {
+                return Err(anyhow!("a ring that is too long"));
+            }
+            print_verdict(rt, verify_ring(file, &ring[0..2 * pairs]))
+        }
+        Err(refusal) => print_refusal(rt, refusal),
+    }
+}
+
+// One case by its words.
+fn run_case(rt: &HostRuntime, words: &[&str]) -> anyhow::Result<()> {
+    let heap = rt.alloc();
+    match words {
+        ["ring", file, ring] => {
+            let file = bytes_of(heap, file)?;
+            let ring = bytes_of(heap, ring)?;
+            print_verdict(rt, verify_ring(file.as_slice(), ring.as_slice()))
+        }
+        ["whole", file] => {
+            let file = bytes_of(heap, file)?;
+            print_whole(rt, file.as_slice())
+        }
+        _ => Err(anyhow!("a line that is no case")),
+    }
+}
+
+fn run(rt: &HostRuntime) -> anyhow::Result<()> {
+    for line in rt.lines(rt.alloc()) {
+        let line = line?;
+        let words: Vec<&str> = line.as_str().split(' ').collect(rt.alloc())?;
+        run_case(rt, words.as_slice())?;
+    }
+    Ok(())
+}
+
+fn main(rt: HostRuntime) -> anyhow::Result<()> {
+    run(&rt)
+}

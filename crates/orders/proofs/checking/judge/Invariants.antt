@@ -1,9 +1,0 @@
-use Rattle.std.proofs.Common.{ℕ, ◌<◌, length}
-use Rattle.finds.specs.Sets.{has}
-use Rattle.tables.specs.Format.{kind_set}
-use Rattle.orders.specs.Checking.{Between}
-use Rattle.orders.proofs.checking.judge.Given as goal
-
--- No kind so far is torn.
-abbrev pub invariant-loop-kind : goal.invariant-loop-kind
-invariant-loop-kind l = (i : ℕ) → i < l.kind → (p : ℕ) → p < length l.order → Between (has (kind_set l.table.kinds.now i)) l.order p → ⊥

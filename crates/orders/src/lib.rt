@@ -1,3 +1,0 @@
-// The checker of an order from elsewhere.
-pub mod checking;
-pub mod verdict;

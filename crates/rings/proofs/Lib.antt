@@ -1,3 +1,0 @@
-pub mod KindSets
-pub mod RingBytes
-pub mod Clashing
