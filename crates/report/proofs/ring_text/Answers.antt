@@ -14,7 +14,7 @@ pairs_all : (ring a b c : List ℕ) (k n : ℕ) → k ≡ n → b ≡ a ++ pairs
 pairs_all ring a b c k n h e f = let p = append_assoc a (pairs_text ring n) line_feed in cc
 
 pub loop-k-preserved : goal.loop-k-preserved
-loop-k-preserved c = pair_more c.args.ring.now (codes "no order" ++ line_feed) _ _ c.loop-k.k c.loop-k.invariant c.in-ok-write-pair.ensures
+loop-k-preserved c = pair_more c.args.ring.now (codes "no order" ++ line_feed) _ _ c.loop-k.k c.loop-k.invariant c.in_ok-write_pair.ensures
 
 pub returns : goal.returns
-returns c = pairs_all c.args.ring.now (codes "no order" ++ line_feed) _ _ c.loop-k.k (length c.args.ring.now / 2) (omega arith) c.loop-k.invariant c.in-ok-push-str.ensures.bytes
+returns c = pairs_all c.args.ring.now (codes "no order" ++ line_feed) _ _ c.loop-k.k (length c.args.ring.now / 2) (omega arith) c.loop-k.invariant c.in_ok-push_str.ensures.bytes

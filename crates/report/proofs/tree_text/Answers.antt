@@ -22,5 +22,5 @@ one_by_one v count n number f t s e k p q r lines =
 
 pub returns : goal.returns
 returns c = λ f t s e.
-    one_by_one c.args.view c.args.count c.args.graves c.orders.result f t s e (c.orders.ensures.by-finds f t s)
-    (c.in-ok-out.ensures t s.holds s.sound) c.in-ok-push-str.ensures.bytes c.in-ok-write-orders.ensures c.in-ok-write-nearest.ensures
+    one_by_one c.args.view c.args.count c.args.graves c.orders.result f t s e (c.orders.ensures.by_finds f t s)
+    (c.in_ok-out.ensures t s.holds s.sound) c.in_ok-push_str.ensures.bytes c.in_ok-write_orders.ensures c.in_ok-write_nearest.ensures

@@ -7,4 +7,4 @@ many_written (Ok x) number a b n e = e ∙ ap (λ (z : Option ℕ). a ++ orders_
 many_written (Err y) number a b n e = tt
 
 pub returns-in-None : goal.returns-in-None
-returns-in-None c = many_written c.push-str.result c.args.number _ _ c.in-None.is c.push-str.ensures.bytes
+returns-in-None c = many_written c.push_str.result c.args.number _ _ c.in-None.is c.push_str.ensures.bytes

@@ -5,8 +5,8 @@ use Rattle.trees.proofs.Walking.{Walked}
 use Rattle.text.specs.Show.{shows}
 use Rattle.text.proofs.+write_part.Given as goal
 
-abbrev pub decreases-write-part : goal.decreases-write-part
-decreases-write-part l = l.count - l.i
+abbrev pub decreases-write_part : goal.decreases-write_part
+decreases-write_part l = l.count - l.i
 
 -- The branches that are done are written.
 abbrev pub invariant-loop-at : goal.invariant-loop-at

@@ -14,7 +14,7 @@ two n a b c h l e f =
     f ∙ ap (λ (z : List ℕ). z ++ ((48 + n % 10) ∷ [])) e ∙ append_assoc a ((48 + n / 10) ∷ []) ((48 + n % 10) ∷ []) ∙ ap (λ (z : List ℕ). a ++ z) (sym d)
 
 pub returns-then-grave-lt10 : goal.returns-then-grave-lt10
-returns-then-grave-lt10 c = IfOk-weaker c.write-byte.result _ _ (λ x e. one c.args.grave _ _ c.if-grave-lt10.true e) c.write-byte.ensures
+returns-then-grave-lt10 c = IfOk-weaker c.write_byte.result _ _ (λ x e. one c.args.grave _ _ c.if-grave-lt10.true e) c.write_byte.ensures
 
 pub returns : goal.returns
-returns c = IfOk-weaker c.write-byte-3.result _ _ (λ x e. two c.args.grave _ _ _ c.if-grave-lt10.false c.requires c.in-ok-write-byte.ensures e) c.write-byte-3.ensures
+returns c = IfOk-weaker c.write_byte-3.result _ _ (λ x e. two c.args.grave _ _ _ c.if-grave-lt10.false c.requires c.in_ok-write_byte.ensures e) c.write_byte-3.ensures

@@ -7,17 +7,17 @@ use Rattle.answers.specs.Seriating.{no_order, turned_away}
 use Rattle.answers.proofs.Shown.{at_tree, at_ground, tree_there, ring_shown}
 use Rattle.answers.proofs.seriating.seriate_text.Goals as goal
 
-pub tree-text-requires : goal.tree-text-requires
-tree-text-requires c =
+pub whole_tree_text-requires : goal.whole_tree_text-requires
+whole_tree_text-requires c =
     let w = c.in-Ok.ensures in
     let lent : branches_for (graves_of c.args.file.now) ≤ 47 = at_least 47 _ (λ l. w.0.1.0 (inl l)) in
     let kept = c.seriate.auto in
     tree_there _ (finds_of c.args.file.now) _ c.in-Tree.count _ _ _ _ _ _ (at_tree _ _ _ c.in-Tree.is w.1) (omega arith)
 
-pub returns-in-ok-ring-text : goal.returns-in-ok-ring-text
-returns-in-ok-ring-text c =
+pub returns-in_ok-ring_text : goal.returns-in_ok-ring_text
+returns-in_ok-ring_text c =
     let w = c.in-Ok.ensures in
-    no_order w.0 (ring_shown (finds_of c.args.file.now) c.in-Ground.pairs _ _ _ _ (at_ground _ _ _ c.in-Ground.is w.1) c.in-ok-ring-text.ensures c.answered-in-Ground.ensures)
+    no_order w.0 (ring_shown (finds_of c.args.file.now) c.in-Ground.pairs _ _ _ _ (at_ground _ _ _ c.in-Ground.is w.1) c.in_ok-ring_text.ensures c.answered-in-Ground.ensures)
 
 pub returns-in-Err : goal.returns-in-Err
 returns-in-Err c =

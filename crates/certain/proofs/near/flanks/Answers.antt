@@ -12,35 +12,35 @@ returns-then-view-i c = λ u p s w e x y.
       | then-view-i-via-else-view-i+then-at-i k ↦ none_before_it (seen c.args.view) c.args.count p s w k.if-at-i.true x
     ]
 
-pub next-after-next-requires : goal.next-after-next-requires
-next-after-next-requires c =
+pub next_after-next-requires : goal.next_after-next-requires
+next_after-next-requires c =
     let o = c.requires.stands in
     let R = seen c.args.view in
     let w = c.requires.branch o.tree o.part in
     stands_at o c.args.at w.it (branch_part R c.args.count o.part o.sound w) (branch_sound R c.args.count o.part o.sound w)
 
-pub returns-then-next-next-after : goal.returns-then-next-next-after
-returns-then-next-next-after c = λ u p s w e x y.
+pub returns-then-next-next_after : goal.returns-then-next-next_after
+returns-then-next-next_after c = λ u p s w e x y.
     let R = seen c.args.view in
     let q = branch_part R c.args.count p s w in
-    none_behind_it R c.args.count p s w _ _ (c.next-after-next.ensures.end w.it q) (c.next-after.ensures.end u p) c.if-next-next-after.true y
+    none_behind_it R c.args.count p s w _ _ (c.next_after-next.ensures.end w.it q) (c.next_after.ensures.end u p) c.if-next-next_after.true y
 
-pub first-grave-requires : goal.first-grave-requires
-first-grave-requires c =
+pub first_grave-requires : goal.first_grave-requires
+first_grave-requires c =
     let o = c.requires.stands in
     let R = seen c.args.view in
     let w = c.requires.branch o.tree o.part in
     let q = branch_part R c.args.count o.part o.sound w in
-    let k = behind_it R c.args.count o.part o.sound w _ _ (c.next-after-next.ensures.end w.it q) (c.next-after.ensures.end o.tree o.part) c.if-next-next-after.false in
-    stands_at o c.next-after-next.result k.next k.part k.sound
+    let k = behind_it R c.args.count o.part o.sound w _ _ (c.next_after-next.ensures.end w.it q) (c.next_after.ensures.end o.tree o.part) c.if-next-next_after.false in
+    stands_at o c.next_after-next.result k.next k.part k.sound
 
 pub returns : goal.returns
 returns c = λ u p s w.
     let R = seen c.args.view in
     let q = branch_part R c.args.count p s w in
     let a = before_it R c.args.count p s w (c.args.at - 1) (let z = w.at in omega arith) c.if-at-i.false in
-    let k = behind_it R c.args.count p s w _ _ (c.next-after-next.ensures.end w.it q) (c.next-after.ensures.end u p) c.if-next-next-after.false in
-    let b = c.first-grave.ensures k.next k.part k.sound in (
+    let k = behind_it R c.args.count p s w _ _ (c.next_after-next.ensures.end w.it q) (c.next_after.ensures.end u p) c.if-next-next_after.false in
+    let b = c.first_grave.ensures k.next k.part k.sound in (
       c.if-view-i.false,
       record {
         fore = a.0;

@@ -12,7 +12,7 @@ loop-at-preserved-in-Some-flanks c =
     (c.in-Some.ensures.stands, so_far_more (Some c.in-Some-flanks.pair) c.loop-at.invariant.1 c.in-Some.ensures.found c.in-Some-flanks.ensures)
 
 pub loop-at-preserved : goal.loop-at-preserved
-loop-at-preserved c = (c.in-Some.ensures.stands, so_far_more None c.loop-at.invariant.1 c.in-Some.ensures.found c.in-default-flanks.ensures)
+loop-at-preserved c = (c.in-Some.ensures.stands, so_far_more None c.loop-at.invariant.1 c.in-Some.ensures.found c.in_default-flanks.ensures)
 
 pub returns : goal.returns
-returns c = so_far_end c.loop-at.invariant.1 c.in-default.ensures.found
+returns c = so_far_end c.loop-at.invariant.1 c.in_default.ensures.found

@@ -20,19 +20,19 @@ large R a f i n t e h l k p =
     let z = ap (factors R 0) (let w : i + 1 + (n - (i + 1)) ≡ n = omega arith in w) ∙ tree_factors R n t p in
     omega arith
 
-pub returns-in-default : goal.returns-in-default
-returns-in-default c =
+pub returns-in_default : goal.returns-in_default
+returns-in_default c =
     let R = seen c.args.view in
-    let big = large R c.loop-i.all c.factor-at.result c.loop-i.i c.args.count in
+    let big = large R c.loop-i.all c.factor_at.result c.loop-i.i c.args.count in
     record {
-      by-tree = λ t p l. omega (arith, big t c.loop-i.invariant.0 c.factor-at.ensures (omega arith) c.in-default.ensures p);
-      by-finds = λ f t s. (product t, number_fitting f t s.exact s.sound, big t c.loop-i.invariant.0 c.factor-at.ensures (omega arith) c.in-default.ensures s.holds);
+      by-tree = λ t p l. omega (arith, big t c.loop-i.invariant.0 c.factor_at.ensures (omega arith) c.in_default.ensures p);
+      by-finds = λ f t s. (product t, number_fitting f t s.exact s.sound, big t c.loop-i.invariant.0 c.factor_at.ensures (omega arith) c.in_default.ensures s.holds);
     }
 
 pub loop-i-preserved : goal.loop-i-preserved
 loop-i-preserved c =
     let h = c.in-Some.ensures in
-    (h.1 ∙ more (seen c.args.view) c.loop-i.all c.factor-at.result c.loop-i.i c.loop-i.invariant.0 c.factor-at.ensures, omega arith)
+    (h.1 ∙ more (seen c.args.view) c.loop-i.all c.factor_at.result c.loop-i.i c.loop-i.invariant.0 c.factor_at.ensures, omega arith)
 
 pub returns : goal.returns
 returns c =

@@ -14,8 +14,8 @@ returns-then-cells-lt2 c = record {
 pub union-requires : goal.union-requires
 union-requires c = stand_below _ _ _ c.requires.stand
 
-pub overflow-add-result : goal.overflow-add-result
-overflow-add-result c = omega (arith, stand_weight _ _ _ c.requires.stand, c.if-cells-lt2.false, c.requires.room.fits, c.requires.room.few)
+pub overflow_add-result : goal.overflow_add-result
+overflow_add-result c = omega (arith, stand_weight _ _ _ c.requires.stand, c.if-cells-lt2.false, c.requires.room.fits, c.requires.room.few)
 
 pub returns : goal.returns
 returns c = record {

@@ -14,13 +14,13 @@ pub returns-in-Empty : goal.returns-in-Empty
 returns-in-Empty t c = record {
   kept = c.copy.ensures.kept;
   opened = λ k b w u p s.
-      rw (stays_whole k b u c.share-of.result c.in-Empty.is (cell_tells k b _ w c.args.view _ _ u p s ∙ sym (ap (told b) c.share-of.ensures))) (laid_at (c.copy.ensures.copied u p));
+      rw (stays_whole k b u c.share_of.result c.in-Empty.is (cell_tells k b _ w c.args.view _ _ u p s ∙ sym (ap (told b) c.share_of.ensures))) (laid_at (c.copy.ensures.copied u p));
 }
 
-pub returns-in-default : goal.returns-in-default
-returns-in-default t c = record {
+pub returns-in_default : goal.returns-in_default
+returns-in_default t c = record {
   kept = kept_refl _ _;
-  opened = λ k b w u p s. rw (c.in-default.ensures k b w u p s (part_told c.args.view _ _ _ k b w c.in-Partial.ensures u p s)) not_laid;
+  opened = λ k b w u p s. rw (c.in_default.ensures k b w u p s (part_told c.args.view _ _ _ k b w c.in-Partial.ensures u p s)) not_laid;
 }
 
 pub list-requires : goal.list-requires
@@ -38,8 +38,8 @@ list-cell-items-requires t c = few_middle c.args.view _ _ _ c.in-Partial.ensures
 pub loop-cell-init : goal.loop-cell-init
 loop-cell-init t c = (kept_refl _ _, λ k b w ts p q. laid_at (wrote_none _ _))
 
-pub lay-open-requires : goal.lay-open-requires
-lay-open-requires t c =
+pub lay_open-requires : goal.lay_open-requires
+lay_open-requires t c =
     let s = c.requires.stands in
     let e = c.in-Partial.ensures in
     let h = c.in-Some.ensures in
@@ -51,13 +51,13 @@ lay-open-requires t c =
       ),
     )
 
-pub returns-in-default-lay-open : goal.returns-in-default-lay-open
-returns-in-default-lay-open t c =
+pub returns-in_default-lay_open : goal.returns-in_default-lay_open
+returns-in_default-lay_open t c =
     let s = c.requires.stands in
     let e = c.in-Partial.ensures in
     let h = c.in-Some.ensures in
     let f = c.list-cell-items.ensures in
-    let u = c.in-default-lay-open.ensures in
+    let u = c.in_default-lay_open.ensures in
     record {
       kept = kept_all c.args.view _ _ _ e _ h s _ _ _ c.list.ensures f c.group-next.ensures.grouped c.loop-cell.invariant.1 c.group-next.ensures.kept c.loop-cell.invariant.0 u.kept;
       opened = laid_not c.args.view _ _ _ e _ h c.args.at _ _ f c.loop-cell-test.true u.opened;
@@ -69,7 +69,7 @@ loop-cell-preserved t c =
     let e = c.in-Partial.ensures in
     let h = c.in-Some.ensures in
     let f = c.list-cell-items.ensures in
-    let u = c.in-Some-lay-open.ensures in (
+    let u = c.in-Some-lay_open.ensures in (
       kept_middle c.args.view _ _ _ e _ h s _ _ _ c.list.ensures f c.group-next.ensures.grouped c.loop-cell.invariant.1 c.loop-cell.invariant.0 u.kept,
       loop_more c.args.view _ _ _ _ c.loop-cell-test.true c.loop-cell.invariant.1 u.kept u.opened,
     )

@@ -4,8 +4,8 @@ use Rattle.changes.specs.Draft.{drafted, Kept}
 use Rattle.changes.proofs.Openings.{SoFar}
 use Rattle.changes.proofs.opening.+lay_open.Given as goal
 
-abbrev pub decreases-lay-open : goal.decreases-lay-open
-decreases-lay-open l = ones (get_or l.view.sets.now l.i 0)
+abbrev pub decreases-lay_open : goal.decreases-lay_open
+decreases-lay_open l = ones (get_or l.view.sets.now l.i 0)
 
 abbrev pub invariant-loop-cell : goal.invariant-loop-cell
 invariant-loop-cell l =

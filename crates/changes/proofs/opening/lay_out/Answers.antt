@@ -6,29 +6,29 @@ use Rattle.changes.proofs.opening.lay_out.Goals as goal
 pub bounds-view-i : goal.bounds-view-i
 bounds-view-i c = omega (arith, c.requires.below, c.requires.long.sorts_long)
 
-pub set-apart-layout-requires : goal.set-apart-layout-requires
-set-apart-layout-requires c =
-    let s = c.branches-of-cells.ensures.stand in
+pub set_apart-layout-requires : goal.set_apart-layout-requires
+set_apart-layout-requires c =
+    let s = c.branches_of-cells.ensures.stand in
     record { within = rw c.list.ensures (stand_below _ _ _ s); few = rw c.list.ensures (stand_few _ _ _ s) }
 
 pub returns-then-layout-gt1 : goal.returns-then-layout-gt1
 returns-then-layout-gt1 c = λ k b w t p s e.
-    layout_many c.args.view _ _ k b _ w _ t p s (rw c.list.ensures (c.branches-of-cells.ensures.branches t p).parts) e c.if-view-i.true c.set-apart-layout.result c.set-apart-layout.ensures c.if-layout-gt1.true
+    layout_many c.args.view _ _ k b _ w _ t p s (rw c.list.ensures (c.branches_of-cells.ensures.branches t p).parts) e c.if-view-i.true c.set_apart-layout.result c.set_apart-layout.ensures c.if-layout-gt1.true
 
 pub returns-then-view-i : goal.returns-then-view-i
 returns-then-view-i c = λ k b w t p s e.
-    layout_any c.args.view _ _ k b _ w _ t p s (rw c.list.ensures (c.branches-of-cells.ensures.branches t p).parts) e c.if-view-i.true c.set-apart-layout.result c.set-apart-layout.ensures c.if-layout-gt1.false
+    layout_any c.args.view _ _ k b _ w _ t p s (rw c.list.ensures (c.branches_of-cells.ensures.branches t p).parts) e c.if-view-i.true c.set_apart-layout.result c.set_apart-layout.ensures c.if-layout-gt1.false
 
 pub sequence-requires : goal.sequence-requires
 sequence-requires c = record {
-  within = stand_below _ _ _ c.branches-of-cells.ensures.stand;
-  few = (c.branches-of-cells.ensures.branches c.requires.tree c.requires.part).few;
+  within = stand_below _ _ _ c.branches_of-cells.ensures.stand;
+  few = (c.branches_of-cells.ensures.branches c.requires.tree c.requires.part).few;
 }
 
-pub returns-in-default : goal.returns-in-default
-returns-in-default c = λ k b w t p s e.
-    layout_stuck c.args.view _ _ k b _ w _ t p s (c.branches-of-cells.ensures.branches t p).parts e c.if-view-i.false c.in-default.ensures
+pub returns-in_default : goal.returns-in_default
+returns-in_default c = λ k b w t p s e.
+    layout_stuck c.args.view _ _ k b _ w _ t p s (c.branches_of-cells.ensures.branches t p).parts e c.if-view-i.false c.in_default.ensures
 
 pub returns : goal.returns
 returns c = λ k b w t p s e.
-    layout_row c.args.view _ _ k b _ w _ t p s (c.branches-of-cells.ensures.branches t p).parts e c.if-view-i.false _ _ refl c.in-Some.ensures
+    layout_row c.args.view _ _ k b _ w _ t p s (c.branches_of-cells.ensures.branches t p).parts e c.if-view-i.false _ _ refl c.in-Some.ensures

@@ -15,11 +15,11 @@ use Rattle.changes.proofs.templates.bind.Goals as goal
 pub union-requires : goal.union-requires
 union-requires c = stand_below _ _ _ c.requires.fulls
 
-pub returns-then-is-empty : goal.returns-then-is-empty
-returns-then-is-empty c = record {
+pub returns-then-is_empty : goal.returns-then-is_empty
+returns-then-is_empty c = record {
   kept = kept_inside c.args.at c.inside.ensures c.copies-end.ensures.kept c.put.ensures.kept;
   bound = λ ts p q s.
-      rw (no_middle (has c.args.kind) (sel (has c.args.kind) part ts) (sel (has c.args.kind) full ts) (sym (parts_len _ _ _ (sel (has c.args.kind) part ts) p) ∙ eqb-true (length c.args.partials.now) 0 (sym c.if-is-empty.ensures)))
+      rw (no_middle (has c.args.kind) (sel (has c.args.kind) part ts) (sel (has c.args.kind) full ts) (sym (parts_len _ _ _ (sel (has c.args.kind) part ts) p) ∙ eqb-true (length c.args.partials.now) 0 (sym c.if-is_empty.ensures)))
       (lies_any c.args.at c.inside.ensures c.copies-end.ensures.kept (sel (has c.args.kind) full ts) (c.union.ensures ∙ parts_union c.args.view _ _ _ q)
       (c.copies-end.ensures.copied _ q) c.put.ensures.there);
 }
@@ -30,18 +30,18 @@ union-requires-2 c = stand_below _ _ _ c.requires.fulls
 pub union-requires-3 : goal.union-requires-3
 union-requires-3 c = stand_below _ _ _ c.requires.partials
 
-pub lay-open-requires : goal.lay-open-requires
-lay-open-requires c =
-    let l : 0 < length c.args.partials.now = omega (arith, eqb-false (length c.args.partials.now) 0 (sym c.if-is-empty.ensures)) in
+pub lay_open-requires : goal.lay_open-requires
+lay_open-requires c =
+    let l : 0 < length c.args.partials.now = omega (arith, eqb-false (length c.args.partials.now) 0 (sym c.if-is_empty.ensures)) in
     record {
       stands = stand_at _ _ _ 0 c.requires.partials l;
       room = room_one c.args.view _ c.args.kind _ _ l c.requires.partials c.requires.fulls (room_inside c.args.at _ c.inside-2.ensures c.requires.room) c.requires.two;
     }
 
-pub returns-in-default : goal.returns-in-default
-returns-in-default c =
-    let l : 0 < length c.args.partials.now = omega (arith, eqb-false (length c.args.partials.now) 0 (sym c.if-is-empty.ensures)) in
-    let u = c.in-default.ensures in
+pub returns-in_default : goal.returns-in_default
+returns-in_default c =
+    let l : 0 < length c.args.partials.now = omega (arith, eqb-false (length c.args.partials.now) 0 (sym c.if-is_empty.ensures)) in
+    let u = c.in_default.ensures in
     record {
       kept = kept_inside c.args.at c.inside-2.ensures u.kept c.put-2.ensures.kept;
       bound = λ ts p q s.
@@ -51,22 +51,22 @@ returns-in-default c =
 
 pub group-next-requires : goal.group-next-requires
 group-next-requires c =
-    let l : 0 < length c.args.partials.now = omega (arith, eqb-false (length c.args.partials.now) 0 (sym c.if-is-empty.ensures)) in
+    let l : 0 < length c.args.partials.now = omega (arith, eqb-false (length c.args.partials.now) 0 (sym c.if-is_empty.ensures)) in
     record { stand = c.requires.fulls; room = room_fulls c.args.view _ c.args.kind _ _ l c.requires.partials c.requires.fulls (room_inside c.args.at _ c.inside-2.ensures c.requires.room) c.in-Some.ensures.opened }
 
-pub lay-all-requires : goal.lay-all-requires
-lay-all-requires c =
-    let l : 0 < length c.args.partials.now = omega (arith, eqb-false (length c.args.partials.now) 0 (sym c.if-is-empty.ensures)) in
+pub lay_all-requires : goal.lay_all-requires
+lay_all-requires c =
+    let l : 0 < length c.args.partials.now = omega (arith, eqb-false (length c.args.partials.now) 0 (sym c.if-is_empty.ensures)) in
     record {
       stand = rest_stand c.args.view _ c.args.kind _ c.args.fulls.now l c.requires.partials;
       room = room_rest c.args.view _ c.args.kind _ _ l c.requires.partials c.requires.fulls (room_inside c.args.at _ c.inside-2.ensures c.requires.room) c.in-Some.ensures.opened c.group-next.ensures.grouped;
     }
 
-pub returns-in-default-lay-all : goal.returns-in-default-lay-all
-returns-in-default-lay-all c =
-    let l : 0 < length c.args.partials.now = omega (arith, eqb-false (length c.args.partials.now) 0 (sym c.if-is-empty.ensures)) in
+pub returns-in_default-lay_all : goal.returns-in_default-lay_all
+returns-in_default-lay_all c =
+    let l : 0 < length c.args.partials.now = omega (arith, eqb-false (length c.args.partials.now) 0 (sym c.if-is_empty.ensures)) in
     let u = c.in-Some.ensures in
-    let z = c.in-default-lay-all.ensures in
+    let z = c.in_default-lay_all.ensures in
     record {
       kept = kept_inside c.args.at c.inside-2.ensures
           (kept_two c.args.view _ c.args.kind _ _ l c.requires.partials c.requires.fulls (room_inside c.args.at _ c.inside-2.ensures c.requires.room) u.opened c.group-next.ensures.grouped u.kept c.group-next.ensures.kept z.kept) c.put-2.ensures.kept;
@@ -78,9 +78,9 @@ returns-in-default-lay-all c =
 
 pub returns : goal.returns
 returns c =
-    let l : 0 < length c.args.partials.now = omega (arith, eqb-false (length c.args.partials.now) 0 (sym c.if-is-empty.ensures)) in
+    let l : 0 < length c.args.partials.now = omega (arith, eqb-false (length c.args.partials.now) 0 (sym c.if-is_empty.ensures)) in
     let u = c.in-Some.ensures in
-    let z = c.in-Some-lay-all.ensures in
+    let z = c.in-Some-lay_all.ensures in
     let k = kept_two c.args.view _ c.args.kind _ _ l c.requires.partials c.requires.fulls (room_inside c.args.at _ c.inside-2.ensures c.requires.room) u.opened c.group-next.ensures.grouped u.kept c.group-next.ensures.kept z.kept in
     record {
       kept = kept_inside c.args.at c.inside-2.ensures k c.put-2.ensures.kept;

@@ -7,24 +7,24 @@ use Rattle.changes.proofs.whole.change.Goals as goal
 pub bounds-sets-0 : goal.bounds-sets-0
 bounds-sets-0 c = first_set c.requires c.args.kind
 
-pub returns-then-ties-nothing : goal.returns-then-ties-nothing
-returns-then-ties-nothing c = few_changes c.requires c.args.kind (c.ties-nothing.ensures.few c.if-ties-nothing.true)
+pub returns-then-ties_nothing : goal.returns-then-ties_nothing
+returns-then-ties_nothing c = few_changes c.requires c.args.kind (c.ties_nothing.ensures.few c.if-ties_nothing.true)
 
 pub redraw-requires : goal.redraw-requires
-redraw-requires c = record { stands = stands_whole _ c.args.count c.requires; two = c.ties-nothing.ensures.many c.if-ties-nothing.false }
+redraw-requires c = record { stands = stands_whole _ c.args.count c.requires; two = c.ties_nothing.ensures.many c.if-ties_nothing.false }
 
-pub returns-in-default : goal.returns-in-default
-returns-in-default c =
-    none_changes c.requires c.args.kind (c.ties-nothing.ensures.many c.if-ties-nothing.false) (drafted c.redraw.new.draft) c.in-default.ensures
+pub returns-in_default : goal.returns-in_default
+returns-in_default c =
+    none_changes c.requires c.args.kind (c.ties_nothing.ensures.many c.if-ties_nothing.false) (drafted c.redraw.new.draft) c.in_default.ensures
 
 pub back-requires : goal.back-requires
 back-requires c =
-    let m = made_cells c.requires c.args.kind (c.ties-nothing.ensures.many c.if-ties-nothing.false) (drafted c.redraw.new.draft) c.in-Some.count c.in-Some.ensures in
+    let m = made_cells c.requires c.args.kind (c.ties_nothing.ensures.many c.if-ties_nothing.false) (drafted c.redraw.new.draft) c.in-Some.count c.in-Some.ensures in
     record { room = omega arith; long = omega arith }
 
 pub returns : goal.returns
 returns c =
-    made_changes c.requires c.args.kind (c.ties-nothing.ensures.many c.if-ties-nothing.false) (drafted c.redraw.new.draft) c.in-Some.count c.in-Some.ensures
+    made_changes c.requires c.args.kind (c.ties_nothing.ensures.many c.if-ties_nothing.false) (drafted c.redraw.new.draft) c.in-Some.count c.in-Some.ensures
     (lent c.back.new.parents c.back.new.sorts c.back.new.places c.back.new.sets)
     c.back.ensures.kept
     c.back.ensures.rest

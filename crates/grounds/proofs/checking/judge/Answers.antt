@@ -9,14 +9,14 @@ pub returns-then-not-joint : goal.returns-then-not-joint
 returns-then-not-joint c =
     let l = c.args.ring.now in let i = c.loop-pair.pair in let z = pairs_length l in (
       omega arith,
-      (λ h. c.if-not-joint.ensures ((held (finds_in_table c.args.table) l i c.place-after-next.result c.pair-at.ensures c.pair-at-in-loop-pair.ensures c.place-after-next.ensures).1 h)),
+      (λ h. c.if-not-joint.ensures ((held (finds_in_table c.args.table) l i c.place_after-next.result c.pair_at.ensures c.pair_at-in-loop-pair.ensures c.place_after-next.ensures).1 h)),
       c.loop-pair.invariant,
     )
 
 pub loop-pair-preserved : goal.loop-pair-preserved
 loop-pair-preserved c =
     let l = c.args.ring.now in let i = c.loop-pair.pair in
-    below_more _ _ c.loop-pair.invariant ((held (finds_in_table c.args.table) l i c.place-after-next.result c.pair-at.ensures c.pair-at-in-loop-pair.ensures c.place-after-next.ensures).0 c.if-not-joint.ensures)
+    below_more _ _ c.loop-pair.invariant ((held (finds_in_table c.args.table) l i c.place_after-next.result c.pair_at.ensures c.pair_at-in-loop-pair.ensures c.place_after-next.ensures).0 c.if-not-joint.ensures)
 
 pub returns : goal.returns
 returns c =

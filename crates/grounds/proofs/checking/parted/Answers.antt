@@ -6,7 +6,7 @@ pub returns-then-not-contains : goal.returns-then-not-contains
 returns-then-not-contains c =
     let a = c.args.a in let b = c.args.b in let g = c.args.c in
     parts_in (in_bytes c.args.table.graves c.args.table.kinds.now) a b g c.loop-i.i (omega arith) (omega arith) (omega arith) (omega arith)
-    (subst (λ (s : ℕ). Parting s a b g) c.kind-at-set.ensures (sym c.if-contains.ensures, sym c.if-not-contains.ensures, sym c.if-contains-2.ensures))
+    (subst (λ (s : ℕ). Parting s a b g) c.kind_at-set.ensures (sym c.if-contains.ensures, sym c.if-not-contains.ensures, sym c.if-contains-2.ensures))
 
 pub returns : goal.returns
 returns c s =

@@ -3,8 +3,8 @@ use Rattle.grounds.specs.Neighbours.{finds_in_sets}
 use Rattle.grounds.proofs.Numbers.{split_proper, split_number, split_below}
 use Rattle.grounds.proofs.neighbours.at_work.Goals as goal
 
-pub overflow-cast-pair : goal.overflow-cast-pair
-overflow-cast-pair c = let h = (split_proper (finds_in_sets c.args.sets) c.args.cell c.requires.known).0 in omega arith
+pub overflow_cast-pair : goal.overflow_cast-pair
+overflow_cast-pair c = let h = (split_proper (finds_in_sets c.args.sets) c.args.cell c.requires.known).0 in omega arith
 
 pub beyond-requires : goal.beyond-requires
 beyond-requires c = let h = split_proper (finds_in_sets c.args.sets) c.args.cell c.requires.known in record { few = c.requires.few; known = (h.0, h.1) }

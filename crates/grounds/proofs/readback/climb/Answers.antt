@@ -4,8 +4,8 @@ use Rattle.grounds.proofs.Climbing.{starts, closed, on_left, on_right}
 use Rattle.grounds.proofs.Turns.{fewer}
 use Rattle.grounds.proofs.readback.climb.Goals as goal
 
-pub overflow-sub-right : goal.overflow-sub-right
-overflow-sub-right c = let h = fewer c.args.sets.graves c.requires.some in omega arith
+pub overflow_sub-right : goal.overflow_sub-right
+overflow_sub-right c = let h = fewer c.args.sets.graves c.requires.some in omega arith
 
 pub bounds-queue-right : goal.bounds-queue-right
 bounds-queue-right c = let h = fewer c.args.sets.graves c.requires.some in omega arith

@@ -3,8 +3,8 @@ use Rattle.std.proofs.lemmas.Nat.{div_below}
 use Rattle.grounds.proofs.RingBytes.{written_more, written_all}
 use Rattle.grounds.proofs.readback.write.Goals as goal
 
-pub overflow-cast-bytes : goal.overflow-cast-bytes
-overflow-cast-bytes c =
+pub overflow_cast-bytes : goal.overflow_cast-bytes
+overflow_cast-bytes c =
     let n = c.args.graves in let x = get_or c.args.cells.now c.loop-i.i 0 in
     let h = div_below x n n c.requires.few.0 (c.requires.known c.loop-i.i c.loop-i-test.true) in omega arith
 

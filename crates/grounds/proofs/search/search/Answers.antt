@@ -39,21 +39,21 @@ loop-head-init c =
     planted_at f c.requires.few.0 k.3 c.search-test.true c.if-seed-n.false k.1 c.if-depths-seed-ne0.false (omega arith) (omega arith) c.enter.ensures in
     (k.0, room f c.requires.few.0 notes, notes)
 
-pub at-work-work-requires : goal.at-work-work-requires
-at-work-work-requires c = let o = c.loop-head.invariant.2.queued c.loop-head.head c.loop-head-test.true in record { few = c.requires.few.1; known = (o.0, o.1.0, o.2) }
+pub at_work-work-requires : goal.at_work-work-requires
+at_work-work-requires c = let o = c.loop-head.invariant.2.queued c.loop-head.head c.loop-head-test.true in record { few = c.requires.few.1; known = (o.0, o.1.0, o.2) }
 
-pub loop-place-preserved-in-default : goal.loop-place-preserved-in-default
-loop-place-preserved-in-default c = let k = c.loop-place.invariant in (k.0, k.1, no_clash k.2 c.in-default.ensures)
+pub loop-place-preserved-in_default : goal.loop-place-preserved-in_default
+loop-place-preserved-in_default c = let k = c.loop-place.invariant in (k.0, k.1, no_clash k.2 c.in_default.ensures)
 
-pub overflow-add-depth : goal.overflow-add-depth
-overflow-add-depth c =
-    let h = c.in-Some.ensures in let w = c.at-work-work.ensures.0 in
-    let z = shallow_at c.loop-place.invariant.2 c.at-work-work.result.cell c.in-Some.other h.0 w.numbers h.1 in omega arith
+pub overflow_add-depth : goal.overflow_add-depth
+overflow_add-depth c =
+    let h = c.in-Some.ensures in let w = c.at_work-work.ensures.0 in
+    let z = shallow_at c.loop-place.invariant.2 c.at_work-work.result.cell c.in-Some.other h.0 w.numbers h.1 in omega arith
 
 pub loop-place-preserved : goal.loop-place-preserved
 loop-place-preserved c =
     let f = finds_in_sets c.args.sets in let k = c.loop-place.invariant in
-    let h = c.in-Some.ensures in let cell = c.at-work-work.result.cell in let is = c.at-work-work.ensures.0.numbers in
+    let h = c.in-Some.ensures in let cell = c.at_work-work.result.cell in let is = c.at_work-work.ensures.0.numbers in
     elim c.if-depths-other-eq0.branch [
       | goal.then-depths-other-eq0 w ↦
           let v = painted_at k.2 cell c.in-Some.other h.0 is h.1 w.if-depths-other-eq0.true (omega arith) (omega arith) (omega arith) w.enter-then-depths-other-eq0.ensures in
@@ -74,7 +74,7 @@ loop-head-preserved c =
       k.0,
       k.1,
       done (subst
-          (Working f (c.search.seed + 1) c.loop-place.depths c.loop-place.parents c.loop-place.queue c.loop-head.head c.loop-place.tail (said c.at-work-work.result.pair))
+          (Working f (c.search.seed + 1) c.loop-place.depths c.loop-place.parents c.loop-place.queue c.loop-head.head c.loop-place.tail (said c.at_work-work.result.pair))
           (omega arith) k.2),
     )
 
@@ -85,5 +85,5 @@ returns-after-search c =
 
 pub returns-then-depths-other : goal.returns-then-depths-other
 returns-then-depths-other c =
-    let h = c.in-Some.ensures in let w = c.at-work-work.ensures.0 in
-    forks_at c.loop-place.invariant.2 c.at-work-work.result.cell c.in-Some.other h.0 w.numbers h.1 c.if-depths-other-eq0.false c.if-depths-other.true
+    let h = c.in-Some.ensures in let w = c.at_work-work.ensures.0 in
+    forks_at c.loop-place.invariant.2 c.at_work-work.result.cell c.in-Some.other h.0 w.numbers h.1 c.if-depths-other-eq0.false c.if-depths-other.true

@@ -5,8 +5,8 @@ use Rattle.tables.proofs.orders.verify_order.Goals as goal
 
 pub returns : goal.returns
 returns c =
-    let h = c.in-ok-table.ensures in let l = c.args.order.now in (
+    let h = c.in_ok-table.ensures in let l = c.args.order.now in (
       h.0,
-      subst (λ (n : ℕ). GoodOrder n l) h.1.graves_are (c.if-order-table.false, λ p m b. c.in-default.ensures p (omega arith) b),
+      subst (λ (n : ℕ). GoodOrder n l) h.1.graves_are (c.if-order-table.false, λ p m b. c.in_default.ensures p (omega arith) b),
       subst (λ (f : Finds). Judged f l c.judge.result) h.1.finds_are c.judge.ensures,
     )

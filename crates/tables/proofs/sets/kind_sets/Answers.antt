@@ -7,7 +7,7 @@ use Rattle.tables.proofs.sets.kind_sets.Goals as goal
 pub loop-i-preserved : goal.loop-i-preserved
 loop-i-preserved c = (
   below_more _ _ (λ j h. let ne : j ≢ c.loop-i.i = omega arith in rw get_or-set_other (c.loop-i.invariant.0 j h))
-      (let lt : c.loop-i.i < length c.loop-i.sets = omega arith in rw get_or-set_same c.kind-at.ensures),
+      (let lt : c.loop-i.i < length c.loop-i.sets = omega arith in rw get_or-set_same c.kind_at.ensures),
   λ j h. let ne : j ≢ c.loop-i.i = omega arith in rw get_or-set_other (c.loop-i.invariant.1 j (omega arith)),
 )
 

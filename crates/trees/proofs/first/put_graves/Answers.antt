@@ -7,6 +7,6 @@ loop-g-init c = record { lie = tt; set_is = refl; kept = record { parents = refl
 
 pub loop-g-preserved : goal.loop-g-preserved
 loop-g-preserved c =
-    graves_more c.loop-g.invariant c.grave-cell-cell.ensures
-    (record { parents = c.put.ensures.parents-after; sorts = c.put.ensures.sorts-after; places = c.put.ensures.places-after; sets = c.put.ensures.sets-after })
+    graves_more c.loop-g.invariant c.grave_cell-cell.ensures
+    (record { parents = c.put.ensures.parents_after; sorts = c.put.ensures.sorts_after; places = c.put.ensures.places_after; sets = c.put.ensures.sets_after })
     (omega (arith, c.loop-g-test.true, c.requires.room, c.loop-g.auto.parents, c.loop-g.auto.sorts, c.loop-g.auto.places, c.loop-g.auto.sets))

@@ -4,7 +4,7 @@ use Rattle.trees.proofs.first.start.Goals as goal
 
 pub returns : goal.returns
 returns c =
-    let w = graves_all (search rules) c.put-graves-graves.ensures
-    (record { parents = c.put-2.ensures.parents-after; sorts = c.put-2.ensures.sorts-after; places = c.put-2.ensures.places-after; sets = c.put-2.ensures.sets-after })
+    let w = graves_all (search rules) c.put_graves-graves.ensures
+    (record { parents = c.put-2.ensures.parents_after; sorts = c.put-2.ensures.sorts_after; places = c.put-2.ensures.places_after; sets = c.put-2.ensures.sets_after })
     (search rules) in
     (search rules, w.0, w.1)

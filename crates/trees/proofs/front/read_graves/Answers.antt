@@ -22,8 +22,8 @@ room {v} {n} h r k w e l =
 pub bounds-out-at : goal.bounds-out-at
 bounds-out-at c = room c.requires.tree c.requires.room c.loop-i.auto.out c.loop-i.invariant c.if-view-i.true c.loop-i-test.true
 
-pub overflow-add-at : goal.overflow-add-at
-overflow-add-at c =
+pub overflow_add-at : goal.overflow_add-at
+overflow_add-at c =
     let a = room c.requires.tree c.requires.room c.loop-i.auto.out c.loop-i.invariant c.if-view-i.true c.loop-i-test.true in omega arith
 
 pub loop-i-preserved : goal.loop-i-preserved

@@ -31,22 +31,22 @@ passed g s done t e w h =
 pub loop-at-init : goal.loop-at-init
 loop-at-init c = λ t p. walk_start c.args.i t (Without c.args.grave) (bit_zero c.args.grave)
 
-pub next-after-at-requires : goal.next-after-at-requires
-next-after-at-requires c = walk_stands c.requires c.loop-at.invariant c.next-after-end.ensures.end c.loop-at-test.true
+pub next_after-at-requires : goal.next_after-at-requires
+next_after-at-requires c = walk_stands c.requires c.loop-at.invariant c.next_after-end.ensures.end c.loop-at-test.true
 
 pub returns-then-contains : goal.returns-then-contains
 returns-then-contains c = record {
-  stands = walk_stands c.requires c.loop-at.invariant c.next-after-end.ensures.end c.loop-at-test.true;
+  stands = walk_stands c.requires c.loop-at.invariant c.next_after-end.ensures.end c.loop-at-test.true;
   found = λ t p.
-      let x = walk_next p (c.loop-at.invariant t p) (c.next-after-end.ensures.end t p) c.loop-at-test.true in
+      let x = walk_next p (c.loop-at.invariant t p) (c.next_after-end.ensures.end t p) c.loop-at-test.true in
       record { before = x.done; it = x.it; behind = x.rest; is = x.is; at = x.at; in_it = found c.args.grave _ x.it (body_set (seen c.args.view) c.loop-at.at x.it x.part.0) c.if-contains.ensures };
 }
 
 pub loop-at-preserved : goal.loop-at-preserved
 loop-at-preserved c = λ t p.
-    let x = walk_next p (c.loop-at.invariant t p) (c.next-after-end.ensures.end t p) c.loop-at-test.true in
-    walk_more (Without c.args.grave) c.next-after-at.result x (c.next-after-at.ensures.end x.it x.part)
+    let x = walk_next p (c.loop-at.invariant t p) (c.next_after-end.ensures.end t p) c.loop-at-test.true in
+    walk_more (Without c.args.grave) c.next_after-at.result x (c.next_after-at.ensures.end x.it x.part)
     (passed c.args.grave _ x.done x.it (body_set (seen c.args.view) c.loop-at.at x.it x.part.0) x.so c.if-contains.ensures)
 
 pub returns : goal.returns
-returns c = record { stands = tt; found = λ t p. walk_end (c.loop-at.invariant t p) (c.next-after-end.ensures.end t p) c.loop-at-test.false }
+returns c = record { stands = tt; found = λ t p. walk_end (c.loop-at.invariant t p) (c.next_after-end.ensures.end t p) c.loop-at-test.false }

@@ -33,30 +33,30 @@ loop-at-init c = ((λ t p. walk_start c.args.i t _ (record { all = refl; front =
 few : (c : goal.In-loop-at) → c.loop-at.many < 64
 few c =
     let s = c.requires.stands in
-    room s (walk_next s.part (c.loop-at.invariant.0 s.tree s.part) (c.next-after-end.ensures.end s.tree s.part) c.loop-at-test.true)
+    room s (walk_next s.part (c.loop-at.invariant.0 s.tree s.part) (c.next_after-end.ensures.end s.tree s.part) c.loop-at-test.true)
 
 pub bounds-into-many : goal.bounds-into-many
 bounds-into-many c = omega (arith, few c, c.loop-at.auto.into, c.requires.room)
 
-pub overflow-add-many : goal.overflow-add-many
-overflow-add-many c = omega (arith, few c)
+pub overflow_add-many : goal.overflow_add-many
+overflow_add-many c = omega (arith, few c)
 
-pub next-after-at-requires : goal.next-after-at-requires
-next-after-at-requires c = walk_stands c.requires.stands c.loop-at.invariant.0 c.next-after-end.ensures.end c.loop-at-test.true
+pub next_after-at-requires : goal.next_after-at-requires
+next_after-at-requires c = walk_stands c.requires.stands c.loop-at.invariant.0 c.next_after-end.ensures.end c.loop-at-test.true
 
 pub loop-at-preserved : goal.loop-at-preserved
 loop-at-preserved c =
     let s = c.requires.stands in
-    let few = room s (walk_next s.part (c.loop-at.invariant.0 s.tree s.part) (c.next-after-end.ensures.end s.tree s.part) c.loop-at-test.true) in
+    let few = room s (walk_next s.part (c.loop-at.invariant.0 s.tree s.part) (c.next_after-end.ensures.end s.tree s.part) c.loop-at-test.true) in
     let l : c.loop-at.many < length c.loop-at.into = omega (arith, c.loop-at.auto.into, c.requires.room) in (
       (λ t p.
-          let x = walk_next p (c.loop-at.invariant.0 t p) (c.next-after-end.ensures.end t p) c.loop-at-test.true in
-          walk_more _ c.next-after-at.result x (c.next-after-at.ensures.end x.it x.part) (listed_more c.loop-at.at x.it l x.at x.so)),
+          let x = walk_next p (c.loop-at.invariant.0 t p) (c.next_after-end.ensures.end t p) c.loop-at-test.true in
+          walk_more _ c.next_after-at.result x (c.next_after-at.ensures.end x.it x.part) (listed_more c.loop-at.at x.it l x.at x.so)),
       kept_more c.loop-at.many c.loop-at.at c.loop-at.into c.args.into.now c.loop-at.invariant.1,
     )
 
 pub returns : goal.returns
 returns c = record {
-  listed = λ t p. walk_end (c.loop-at.invariant.0 t p) (c.next-after-end.ensures.end t p) c.loop-at-test.false;
+  listed = λ t p. walk_end (c.loop-at.invariant.0 t p) (c.next_after-end.ensures.end t p) c.loop-at-test.false;
   rest = c.loop-at.invariant.1;
 }
