@@ -13,13 +13,13 @@ pub loop-at-init : goal.loop-at-init
 loop-at-init m c = λ t p. walk_start c.args.i t _ (λ s. sym (append-nil _))
 
 pub write_part-requires : goal.write_part-requires
-write_part-requires m c κs =
+write_part-requires m c =
     let w = c.loop-at.invariant c.requires.tree c.requires.part in
     let s = walk_stands c.requires c.loop-at.invariant c.next_after-end.ensures.end c.loop-at-test.true in
     (omega (arith, c.decreases, w.at, s.below), s)
 
 pub next_after-at-requires : goal.next_after-at-requires
-next_after-at-requires m c κs = walk_stands c.requires c.loop-at.invariant c.next_after-end.ensures.end c.loop-at-test.true
+next_after-at-requires m c = walk_stands c.requires c.loop-at.invariant c.next_after-end.ensures.end c.loop-at-test.true
 
 pub loop-at-preserved : goal.loop-at-preserved
 loop-at-preserved m c = λ t p.

@@ -25,8 +25,8 @@ returns-in_default c =
     let R = seen c.args.view in
     let big = large R c.loop-i.all c.factor_at.result c.loop-i.i c.args.count in
     record {
-      by-tree = λ t p l. omega (arith, big t c.loop-i.invariant.0 c.factor_at.ensures (omega arith) c.in_default.ensures p);
-      by-finds = λ f t s. (product t, number_fitting f t s.exact s.sound, big t c.loop-i.invariant.0 c.factor_at.ensures (omega arith) c.in_default.ensures s.holds);
+      by_tree = λ t p l. omega (arith, big t c.loop-i.invariant.0 c.factor_at.ensures (omega arith) c.in_default.ensures p);
+      by_finds = λ f t s. (product t, number_fitting f t s.exact s.sound, big t c.loop-i.invariant.0 c.factor_at.ensures (omega arith) c.in_default.ensures s.holds);
     }
 
 pub loop-i-preserved : goal.loop-i-preserved
@@ -40,6 +40,6 @@ returns c =
     let at : c.loop-i.i ≡ c.args.count = omega arith in
     let all : (t : Tree) → Holds R c.args.count t → c.loop-i.all ≡ product t = λ t p. c.loop-i.invariant.0 ∙ ap (factors R 0) at ∙ tree_factors R c.args.count t p in
     record {
-      by-tree = λ t p. (let e = all t p in omega (arith, c.loop-i.invariant.1), all t p);
-      by-finds = λ f t s. subst (Number (Fitting f)) (sym (all t s.holds)) (number_fitting f t s.exact s.sound);
+      by_tree = λ t p. (let e = all t p in omega (arith, c.loop-i.invariant.1), all t p);
+      by_finds = λ f t s. subst (Number (Fitting f)) (sym (all t s.holds)) (number_fitting f t s.exact s.sound);
     }

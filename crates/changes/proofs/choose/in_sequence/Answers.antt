@@ -11,8 +11,8 @@ bounds-sets-cell c = All-get_or _ c.args.cells.now c.loop-cell.cell-index 0 c.lo
 pub returns-in_default : goal.returns-in_default
 returns-in_default c = order_more _ _ _ _ _ true Partial c.loop-cell-test.true c.in-Partial.ensures c.if-not-past.false ∙ c.loop-cell.invariant
 
-pub returns-in-default·2 : goal.returns-in-default·2
-returns-in-default·2 c = order_more _ _ _ _ _ true Empty c.loop-cell-test.true c.in-Empty.ensures c.if-not-past-2.false ∙ c.loop-cell.invariant
+pub returns-in_default-2 : goal.returns-in_default-2
+returns-in_default-2 c = order_more _ _ _ _ _ true Empty c.loop-cell-test.true c.in-Empty.ensures c.if-not-past-2.false ∙ c.loop-cell.invariant
 
 pub loop-cell-preserved : goal.loop-cell-preserved
 loop-cell-preserved c =

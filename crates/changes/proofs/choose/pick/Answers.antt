@@ -1,4 +1,4 @@
-use Rattle.std.proofs.Common.{filter, sym, ap, ◌∙◌, arith}
+use Rattle.std.proofs.Common.{filter, sym, ap, ◌∙◌, arith, rules}
 use Rattle.std.proofs.ByRecursion.{All-get_or}
 use Rattle.std.proofs.lemmas.List.{length-set, length-take-le, take_all}
 use Rattle.changes.specs.Shares.{has_share}
@@ -13,9 +13,9 @@ pub loop-cell-preserved : goal.loop-cell-preserved
 loop-cell-preserved c =
     elim c.if-eq.branch [
       | then-eq w ↦ rw (w.many-is, w.picked-is)
-          (simp length-set c.loop-cell.invariant.0, omega arith, kept_one _ _ c.loop-cell.picked _ c.loop-cell.many c.loop-cell-test.true c.loop-cell.invariant.2 (alike_yes _ _ _ c.share_of.ensures w.if-eq.ensures) (omega arith))
+          (simp length-set c.loop-cell.invariant.0, omega arith, kept_one _ _ c.loop-cell.picked _ c.loop-cell.many c.loop-cell-test.true c.loop-cell.invariant.2 (alike_yes _ _ _ c.share_of.ensures (let h = w.if-eq.ensures in search rules)) (omega arith))
       | else-eq w ↦ rw (w.many-is, w.picked-is)
-          (c.loop-cell.invariant.0, omega arith, left_out _ _ c.loop-cell.picked _ c.loop-cell.many c.loop-cell-test.true c.loop-cell.invariant.2 (alike_no _ _ _ c.share_of.ensures w.if-eq.ensures))
+          (c.loop-cell.invariant.0, omega arith, left_out _ _ c.loop-cell.picked _ c.loop-cell.many c.loop-cell-test.true c.loop-cell.invariant.2 (alike_no _ _ _ c.share_of.ensures (let h = w.if-eq.ensures in search rules)))
     ]
 
 pub returns : goal.returns

@@ -14,7 +14,7 @@ rebuild-requires c =
 pub returns-in_err-at : goal.returns-in_err-at
 returns-in_err-at c =
     let site = at_site c.requires.stands c.requires.two c.smallest-part.ensures in
-    rw c.from-residual.ensures (drawn_none site (drafted c.rebuild.new.draft) c.in_err-at.ensures.rebuilt)
+    rw c.from_residual.ensures (drawn_none site (drafted c.rebuild.new.draft) c.in_err-at.ensures.rebuilt)
 
 pub behind-requires : goal.behind-requires
 behind-requires c =
