@@ -14,10 +14,10 @@ whole_tree_text-requires c =
     let kept = c.seriate.auto in
     tree_there _ (finds_of c.args.file.now) _ c.in-Tree.count _ _ _ _ _ _ (at_tree _ _ _ c.in-Tree.is w.1) (omega arith)
 
-pub returns-in_ok-ring_text : goal.returns-in_ok-ring_text
-returns-in_ok-ring_text c =
+pub returns-in_ok-ring_text-in-Ground : goal.returns-in_ok-ring_text-in-Ground
+returns-in_ok-ring_text-in-Ground c =
     let w = c.in-Ok.ensures in
-    no_order w.0 (ring_shown (finds_of c.args.file.now) c.in-Ground.pairs _ _ _ _ (at_ground _ _ _ c.in-Ground.is w.1) c.in_ok-ring_text.ensures c.answered-in-Ground.ensures)
+    no_order w.0 (ring_shown (finds_of c.args.file.now) c.in-Ground.pairs _ _ _ _ (at_ground _ _ _ c.in-Ground.is w.1) c.in_ok-ring_text-in-Ground.ensures c.answered-in-Ground.ensures)
 
 pub returns-in-Err : goal.returns-in-Err
 returns-in-Err c =
