@@ -1,5 +1,5 @@
 -- From what the whole call promises to what is printed.
-use Rattle.std.proofs.Common.{◌≡◌, ℕ, ◌-◌, ◌*◌, ◌≤◌, List, take, drop, string_bytes, sym, ap, ◌∙◌, subst, arith}
+use Rattle.std.proofs.Common.{◌≡◌, ℕ, ◌-◌, ◌*◌, ◌≤◌, List, take, drop, sym, ap, ◌∙◌, subst, arith}
 use Rattle.finds.specs.Finds.{Finds}
 use Rattle.finds.proofs.Size.{few_nodes}
 use Rattle.grounds.specs.Checking.{pairs_of}

@@ -1,6 +1,5 @@
 -- What is printed.
-use Rattle.std.specs.Prelude.{◌≡◌, ℕ, List, Ok, Err, string_bytes, Result}
-use Rattle.tables.specs.declared.refusal.Refusal.{Refusal}
+use Rattle.std.specs.Prelude.{◌≡◌, ℕ, List, string_bytes}
 use Rattle.answers.specs.declared.printed.Ending.{Ending}
 use Rattle.answers.specs.declared.printed.Ending.TheVariants.{Answered, TurnedAway}
 use Rattle.answers.specs.declared.printed.Printed.{Printed}

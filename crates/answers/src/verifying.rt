@@ -3,10 +3,10 @@ ghost use Rattle.answers.specs.Verifying.{OrderChecked, RingChecked};
 ghost use Rattle.std.specs.Prelude.{IfOk};
 
 use crate::printed::{Printed, answered, turned_away};
-use tables::orders::verify_order;
-use report::{order_verdict_text, ring_verdict_text};
 use grounds::checking::verify_ring;
+use report::{order_verdict_text, ring_verdict_text};
 use std::alloc::{AllocError, Global};
+use tables::orders::verify_order;
 
 // What is printed of an order from elsewhere for the file of a table: that it fits, or what it tears, or a refusal. Or want of memory for the text.
 pub fn order_text(heap: Global, file: &[u8], order: &[u8]) -> Result<Printed, AllocError>

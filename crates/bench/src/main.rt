@@ -1,5 +1,7 @@
 // bench tree|whole|text FILE ROUNDS [time]: answers all tables of a file, one behind the other, so many times over: by the tree alone, by the whole call, or with the text that is printed.
 // It prints how many have a tree, how many have no order and how many are refused; with the word time, nanoseconds for each table that is answered too.
+#![tactic(auto)]
+
 use answers::printed::Ending;
 use answers::seriating::seriate_text;
 use anyhow::anyhow;

@@ -3,11 +3,11 @@ use crate::permuting::all_orders;
 use crate::sets::are_together;
 use crate::tallying::kinds_of;
 use anyhow::anyhow;
-use tables::orders::verify_order;
-use tables::verdict::Verdict;
 use seriation::building::build;
 use seriation::built::Built;
 use std::alloc::{AllocError, Global};
+use tables::orders::verify_order;
+use tables::verdict::Verdict;
 use trees::allowed::allows;
 use trees::rows::View;
 

@@ -8,6 +8,8 @@
 //   answer HEX                              the file: what is printed, against all orders, one by one
 //   count HEX                               the file: the line on the number of orders
 //   text HEX                                the file: what is printed, as it is
+#![tactic(auto)]
+
 mod answer;
 mod checks;
 mod drawn;

@@ -1,4 +1,6 @@
 // What is certain of the orders that a tree allows, and how many there are.
+#![tactic(auto)]
+
 pub mod between;
 pub mod near;
 pub mod neighbours;

@@ -90,7 +90,12 @@ fn written(found: Option<Neighbours>) -> Neighbours
 
 // Writes for each grave of the tree in the first `count` cells the two nearest between which it is certain to lie, the one before it and the one behind it, or 255 in both if there are none; answers how many graves there are.
 // None, and nothing changed, if the cells hold no tree, or one with more graves than there is room for.
-pub fn nearest_answer(view: View, count: usize, before: &mut [u8], behind: &mut [u8]) -> Option<usize>
+pub fn nearest_answer(
+    view: View,
+    count: usize,
+    before: &mut [u8],
+    behind: &mut [u8],
+) -> Option<usize>
     ensures { NearAnswer view.entry count before.old behind.old before.new behind.new result }
 {
     if !is_tree(view, count) {

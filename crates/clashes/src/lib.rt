@@ -1,5 +1,7 @@
 // Where no order fits there is a ground, and a ground can be had as a ring of clashing pairs.
 // Each function only carries a theorem in its contract: the definitions are in specs/, the proofs in proofs/.
+#![tactic(auto)]
+
 ghost use Rattle.clashes.specs.Theorems.{ColoursOrGround, OrderOf, OrderOrGround, NoneOrGround, RingOf, RingShort, ClosesGround};
 
 // The pairs can be coloured, or there is a ground.

@@ -1,5 +1,7 @@
 // The laws of fitting orders that follow from the definitions alone.
 // Each function only carries a theorem in its contract: the definitions are in specs/, the proofs in proofs/.
+#![tactic(auto)]
+
 ghost use Rattle.finds.specs.Laws.{GroundLaw, JustOne, OneKindMore, TurnedFits, AnySequence};
 ghost use Rattle.finds.specs.Worked.{WorkedTables};
 

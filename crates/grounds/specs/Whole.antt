@@ -6,7 +6,7 @@ use Rattle.finds.specs.Exactness.{Exactly, SomeFits, NoneFits}
 use Rattle.pqtree.specs.Growth.{first_kinds, after}
 use Rattle.pqtree.specs.Theorems.{Stands}
 use Rattle.seriation.specs.Building.{Standing, SetsWritten}
-use Rattle.tables.specs.Format.{graves_of, finds_of}
+use Rattle.tables.specs.Format.{finds_of}
 use Rattle.tables.specs.Reading.{Refused, Taken}
 use Rattle.tables.specs.declared.refusal.Refusal.{Refusal}
 use Rattle.tables.specs.declared.room.Room.{Room}

@@ -1,4 +1,6 @@
 // Grounds: the checker of a ring from elsewhere, the search for an odd ring in lent memory, and the whole call from the file of a table to a tree or a ground.
+#![tactic(auto)]
+
 pub mod checking;
 pub mod finding;
 mod neighbours;

@@ -1,6 +1,8 @@
 // Runs cases from stdin, one to a line, and prints what the checker of rings and the whole call answer.
 //   ring HEX HEX    the file of a table, and the bytes of a ring
 //   whole HEX       the file of a table: `tree`, `ground` if the ring that was found is accepted by the checker, else what went wrong
+#![tactic(auto)]
+
 use anyhow::anyhow;
 use grounds::checking::verify_ring;
 use grounds::outcome::Outcome;

@@ -1,7 +1,7 @@
 -- From a tree of exactly the orders that fit to one of those that fit with one kind more.
 use Rattle.std.proofs.Common.{ℕ, ◌<◌, Bool, List}
 use Rattle.finds.specs.Finds.{Finds, Order, Fits}
-use Rattle.finds.specs.Trees.{Tree, Good, graves}
+use Rattle.finds.specs.Trees.{Tree, graves}
 use Rattle.finds.specs.Exactness.{RowOf, Exactly, SomeFits}
 use Rattle.finds.specs.Laws.{with_kind}
 use Rattle.finds.proofs.Laws.{one_kind_more}

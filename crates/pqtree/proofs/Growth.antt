@@ -1,15 +1,14 @@
 -- Kind after kind: what has grown stands for the kinds so far; and so each table has a tree, or no order fits.
-use Rattle.std.proofs.Common.{◌≡◌, ℕ, zero, suc, ◌+◌, ◌<◌, ◌≤◌, Bool, false, ◌⊎◌, List, [], ◌∷◌, ◌++◌, length, get_or, take, sym, refl, ap, ◌∙◌, subst, inl, inr, append-nil, add-one, arith}
+use Rattle.std.proofs.Common.{◌≡◌, ℕ, zero, suc, ◌<◌, ◌≤◌, Bool, false, ◌⊎◌, List, [], ◌∷◌, ◌++◌, length, get_or, take, sym, ap, ◌∙◌, subst, inl, inr, append-nil, add-one, arith}
 use mathlib.Core.List.Permᴰ
 use mathlib.Core.List.{Permᴰ}
 use Rattle.std.proofs.lemmas.List.{take_more, take_all}
 use Rattle.finds.specs.Finds.{Finds, Order, Fits}
 use Rattle.finds.specs.Trees.{Tree, Good, start}
 use Rattle.finds.specs.Exactness.{Exactly, SomeFits, NoneFits}
-use Rattle.finds.specs.Laws.{with_kind}
 use Rattle.finds.proofs.Laws.{one_kind_more, any_sequence}
 use Rattle.finds.proofs.Start.{start_good, start_exact}
-use Rattle.pqtree.specs.Change.{Outcome, torn, made, step}
+use Rattle.pqtree.specs.Change.{Outcome, torn, made}
 use Rattle.pqtree.specs.Growth.{first_kinds, then_kind, after}
 use Rattle.pqtree.specs.Theorems.{Stands, KindByKind, TreeOrNone}
 use Rattle.pqtree.proofs.Exact.{step_exact, some_fits}

@@ -1,5 +1,7 @@
 // The change of a tree for one kind more, and the theorems about it.
 // Each function only carries a theorem in its contract: the definitions are in specs/, the proofs in proofs/.
+#![tactic(auto)]
+
 ghost use Rattle.pqtree.specs.Theorems.{StepExact, KindByKind, TreeOrNone};
 
 // From a tree of exactly the orders that fit, the change for one kind more makes the tree of exactly those that fit with this kind, or finds that none does.

@@ -1,5 +1,5 @@
 -- The lines on the nearest graves, one grave after the other.
-use Rattle.std.proofs.Common.{◌≡◌, ℕ, zero, suc, ◌+◌, ◌<◌, cond, eqb, List, ◌++◌, Some, None, Option, sym, refl, ap, subst, append_assoc, append-nil, add-one, arith, below_more, eq-eqb, ne_eqb}
+use Rattle.std.proofs.Common.{◌≡◌, ℕ, zero, suc, ◌+◌, ◌<◌, cond, eqb, List, ◌++◌, None, Option, sym, refl, ap, subst, append_assoc, append-nil, add-one, arith, below_more, eq-eqb, ne_eqb}
 use Rattle.finds.specs.Finds.{Finds}
 use Rattle.finds.specs.Trees.{Tree, graves}
 use Rattle.trees.specs.declared.rows.View.{View}

@@ -1,4 +1,6 @@
 // The answers of the programs as text.
+#![tactic(auto)]
+
 ghost use Rattle.std.specs.Prelude.{◌≡◌, ◌++◌, IfOk, string_bytes, OnOk};
 ghost use Rattle.finds.specs.Finds.{Finds};
 ghost use Rattle.finds.specs.Trees.{Tree};

@@ -1,4 +1,6 @@
 // seriate TABLE: prints the tree of the orders of the graves that fit a table of finds, their number, and what is certain; or, where none fits, a ring of pairs that contradict each other.
+#![tactic(auto)]
+
 use answers::printed::Ending;
 use answers::seriating::seriate_text;
 use anyhow::anyhow;

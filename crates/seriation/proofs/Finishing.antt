@@ -1,16 +1,16 @@
 -- From the tree that has grown in the rows to what is promised of the finds.
-use Rattle.std.proofs.Common.{◌≡◌, ℕ, zero, suc, ◌+◌, ◌-◌, ◌*◌, ◌<◌, ◌≤◌, Bool, ◌⊎◌, List, length, get_or, take, sym, refl, ap, ◌∙◌, subst, inl, inr, arith}
+use Rattle.std.proofs.Common.{◌≡◌, ℕ, zero, suc, ◌+◌, ◌-◌, ◌<◌, ◌≤◌, Bool, List, length, get_or, take, sym, refl, ap, ◌∙◌, subst, arith}
 use Rattle.std.proofs.lemmas.List.{get_or-take, take_all}
 use Rattle.finds.specs.Finds.{Finds}
-use Rattle.finds.specs.Exactness.{Exactly, SomeFits, NoneFits}
+use Rattle.finds.specs.Exactness.{Exactly, SomeFits}
 use Rattle.finds.specs.Trees.{Tree, graves_from, start}
 use Rattle.finds.proofs.Size.{few_nodes, some_nodes}
-use Rattle.pqtree.specs.Change.{Outcome, torn, made}
+use Rattle.pqtree.specs.Change.{torn}
 use Rattle.pqtree.specs.Growth.{first_kinds, then_kind, after}
 use Rattle.pqtree.specs.Theorems.{Stands}
 use Rattle.pqtree.proofs.Growth.{kind_by_kind, whole_table}
 use Rattle.tables.specs.Room.{branches_for}
-use Rattle.trees.specs.Cells.{nodes, size, sizes, Lent, held, Holds}
+use Rattle.trees.specs.Cells.{size, sizes, Lent, held, Holds}
 use Rattle.trees.specs.Starting.{SameFrom}
 use Rattle.trees.proofs.Cells.{body_moved}
 use Rattle.trees.proofs.Starting.{start_sound}

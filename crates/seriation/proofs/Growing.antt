@@ -1,7 +1,6 @@
 -- A tree that grows in lent rows: one kind more, and what stands in the rows at the end.
-use Rattle.std.proofs.Common.{◌≡◌, ℕ, zero, suc, ◌+◌, ◌-◌, ◌*◌, ◌<◌, ◌≤◌, Bool, false, List, map, length, get_or, drop, sym, refl, ap, ◌∙◌, subst, inl, arith}
+use Rattle.std.proofs.Common.{◌≡◌, ℕ, suc, ◌+◌, ◌-◌, ◌<◌, ◌≤◌, Bool, false, List, map, length, get_or, drop, sym, refl, ap, ◌∙◌, subst, inl, arith}
 use Rattle.std.proofs.lemmas.List.{drop-drop, get_or-map, length-map}
-use Rattle.finds.specs.Finds.{Finds}
 use Rattle.finds.specs.Sets.{has}
 use Rattle.finds.specs.Trees.{Tree}
 use Rattle.finds.proofs.Size.{few_nodes}
@@ -10,7 +9,7 @@ use Rattle.pqtree.specs.Growth.{then_kind, after}
 use Rattle.pqtree.proofs.Change.{step_size}
 use Rattle.tables.specs.Format.{finds_of_sets}
 use Rattle.tables.specs.Room.{branches_for}
-use Rattle.trees.specs.Cells.{nodes, size, Lent, held, shortest, Holds}
+use Rattle.trees.specs.Cells.{Lent, held, shortest, Holds}
 use Rattle.trees.specs.Starting.{SameFrom}
 use Rattle.changes.specs.Whole.{Holding, Stepped, Changes}
 use Rattle.changes.specs.declared.changed.Changed.TheVariants.{Made, NoOrder}

@@ -1,6 +1,8 @@
 // Runs tables from stdin, one to a line as hexadecimal digits, and compares the tree with a search through all orders, kind by kind.
 // For each number of first kinds it prints how many orders the tree allows, once it is seen that these are just the orders that fit;
 // or `none K` where no order fits and K is the kind at which this was found.
+#![tactic(auto)]
+
 use seriation::building::build;
 use seriation::built::Built;
 use std::alloc::{AllocError, Global};

@@ -1,13 +1,12 @@
 -- The bytes of an order: n different graves below n have each grave once, and so are the row of an order.
-use Rattle.std.proofs.Common.{◌≡◌, ℕ, zero, suc, ◌+◌, ◌<◌, ◌≤◌, Bool, true, false, eqb, ◌≢◌, ◌⊎◌, List, [], ◌∷◌, length, get_or, sym, refl, ap, ◌∙◌, inl, inr, arith, eq-eqb, ne_eqb, eqb-true}
+use Rattle.std.proofs.Common.{◌≡◌, ℕ, zero, suc, ◌+◌, ◌<◌, ◌≤◌, Bool, true, false, eqb, ◌≢◌, List, [], ◌∷◌, length, get_or, sym, refl, ap, ◌∙◌, inl, inr, arith, eq-eqb, ne_eqb, eqb-true}
 use native.Mathlib.Decide.{dec_lt, ℕ_discrete}
-use borrow.Author.Tests.{eqb-false}
 use Rattle.finds.specs.Counts.{hit, count}
 use Rattle.finds.specs.Finds.{Order, OneStretch}
 use Rattle.finds.specs.Exactness.{RowOf}
 use Rattle.finds.proofs.Start.{Whole}
 use Rattle.std.proofs.lemmas.List.{get_or_default}
-use Rattle.tables.specs.Orders.{BadPlace, GoodOrder, Between}
+use Rattle.tables.specs.Orders.{GoodOrder, Between}
 
 -- ---- sums below n
 

@@ -1,5 +1,5 @@
 -- One refusal at most applies to a file, and none if it is taken.
-use Rattle.std.proofs.Common.{◌≡◌, ℕ, ◌<◌, ◌⊎◌, List, Some, None, Option, sym, refl, ap, ◌∙◌, inl, inr, arith}
+use Rattle.std.proofs.Common.{◌≡◌, ℕ, ◌<◌, List, Some, None, Option, sym, refl, ap, ◌∙◌, arith}
 use native.Mathlib.Decide.{dec_lt}
 use Rattle.tables.specs.Reading.{Shortage, Refused, Taken}
 use Rattle.tables.specs.declared.refusal.Lent.{Lent}

@@ -1,4 +1,6 @@
 // Tables of finds: the reader of their files, and the checker of an order from elsewhere.
+#![tactic(auto)]
+
 pub mod orders;
 pub mod reading;
 pub mod refusal;

@@ -2,6 +2,8 @@
 //   table HEX                      the file, with no memory lent
 //   lent BRANCHES KINDS COLOURS RINGS HEX   the file, with memory of these sizes lent
 //   order HEX HEX                  the file, and the bytes of an order
+#![tactic(auto)]
+
 use anyhow::anyhow;
 use std::alloc::{AllocError, Global};
 use tables::orders::verify_order;

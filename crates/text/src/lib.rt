@@ -1,4 +1,6 @@
 // Trees as text.
+#![tactic(auto)]
+
 ghost use Rattle.std.specs.Prelude.{◌≡◌, ◌<◌, [], ◌∷◌, ◌++◌, IfOk, if◌then◌else◌, string_bytes, decimal, OnOk, nat_eq};
 ghost use Rattle.finds.specs.Trees.{Tree};
 ghost use Rattle.trees.specs.Cells.{Holds, Part, Sound};

@@ -1,4 +1,6 @@
 // Trees of orders (PQ-trees) in lent rows: for each cell its parent, its sort, its place among the siblings, and the set of graves below it.
+#![tactic(auto)]
+
 pub mod allowed;
 pub mod checked;
 pub mod first;

@@ -1,4 +1,6 @@
 // verify TABLE order FILE, verify TABLE ring FILE: checks an order of the graves, or a ring of clashing pairs, from elsewhere against a table of finds.
+#![tactic(auto)]
+
 use answers::printed::Ending;
 use answers::verifying::{order_text, ring_text};
 use anyhow::anyhow;

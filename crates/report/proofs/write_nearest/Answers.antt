@@ -1,4 +1,4 @@
-use Rattle.std.proofs.Common.{◌≡◌, arith}
+use Rattle.std.proofs.Common.{arith}
 use Rattle.report.proofs.Lines.{lines_none, lines_more, lines_all}
 use Rattle.report.proofs.write_nearest.Goals as goal
 

@@ -1,4 +1,4 @@
-use Rattle.std.proofs.Common.{◌≡◌, ⊎_elim, arith}
+use Rattle.std.proofs.Common.{⊎_elim, arith}
 use Rattle.finds.specs.Sets.{has}
 use Rattle.std.proofs.lemmas.List.{length-map}
 use Rattle.tables.specs.Format.{finds_of_sets}

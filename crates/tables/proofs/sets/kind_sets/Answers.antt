@@ -1,4 +1,4 @@
-use Rattle.std.proofs.Common.{◌≡◌, ℕ, ◌+◌, ◌/◌, ◌<◌, Bool, ◌≢◌, List, length, take, drop, sym, refl, ap, ◌∙◌, arith, length-drop, get_or-set_other, get_or-set_same, below_more}
+use Rattle.std.proofs.Common.{◌≡◌, ℕ, ◌+◌, ◌/◌, ◌<◌, Bool, ◌≢◌, List, length, take, sym, refl, ap, ◌∙◌, arith, length-drop, get_or-set_other, get_or-set_same, below_more}
 use Rattle.std.proofs.lemmas.List.{ext_get_or, get_or-take, get_or-drop, length-take-le}
 use Rattle.tables.specs.Format.{kind_set}
 use Rattle.tables.proofs.KindList.{kinds_as_sets}
