@@ -5,7 +5,7 @@ use Rattle.finds.specs.Trees.{Tree, none, more}
 use Rattle.finds.specs.Counts.{count_t}
 use Rattle.finds.specs.Sets.{has}
 use Rattle.pqtree.specs.Change.{Outcome, torn, made, if_two, change, step}
-use Rattle.pqtree.specs.Theorems.{Stands as Stands-for}
+use Rattle.pqtree.specs.Theorems.{Stands as StandsFor}
 use Rattle.pqtree.proofs.Change.{step_size}
 use Rattle.pqtree.proofs.Exact.{step_exact}
 use Rattle.trees.specs.Cells.{size, Sound, Cells, Lent, lent, held, shortest, Holds}
@@ -38,7 +38,7 @@ few_step k t = go (count_t k true t)
     go (suc (suc n)) h = absurd (omega arith)
 
 -- A step that is right for the finds makes the answer right that is the step's.
-right : (f : Finds) (S : Lent) (r : Changed) (o : Outcome) → ((u : Tree) → o ≡ made u → Sound u) → Stands-for f o → Stepped S r o → Right f S r
+right : (f : Finds) (S : Lent) (r : Changed) (o : Outcome) → ((u : Tree) → o ≡ made u → Sound u) → StandsFor f o → Stepped S r o → Right f S r
 right f S (Made c) torn sound a b = absurd b
 right f S (Made c) (made u) sound a b = (u, b, sound u refl, a.1, a.2)
 right f S NoOrder torn sound a b = a

@@ -4,7 +4,7 @@ use mathlib.Core.Bool.{false≢true}
 use mathlib.Core.List.{reverse-cons}
 use native.Mathlib.Nat.{sub-zero}
 use lib.Bits.{bit_or, or_comm}
-use Rattle.std.specs.List.{AllByRecursion as All}
+use Rattle.std.specs.List.{AllByRecursion}
 use Rattle.std.proofs.lemmas.List.Elements.{filter_more}
 use Rattle.std.proofs.ByRecursion.{All-append}
 use Rattle.std.proofs.lemmas.List.{take_more_set, take_at, length-reverse, length-take-le, at_drop_more, at_drop_all}
@@ -75,6 +75,6 @@ front_turned xs ys zs n l e =
     let f : ys ≡ reverse (take n xs) = e ∙ ap (λ (k : ℕ). reverse (take k xs)) (sub-zero n) in
     take_at ys zs n (ap length f ∙ length-reverse (take n xs) ∙ length-take-le n xs l) ∙ f
 
-pub all_reverse : (P : ℕ → Type 0) (xs : List ℕ) → All P xs → All P (reverse xs)
+pub all_reverse : (P : ℕ → Type 0) (xs : List ℕ) → AllByRecursion P xs → AllByRecursion P (reverse xs)
 all_reverse P [] a = tt
 all_reverse P (x ∷ xs) a = rw reverse-cons (All-append P (reverse xs) (x ∷ []) (all_reverse P xs a.1) (a.0, tt))

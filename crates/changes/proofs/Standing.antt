@@ -1,7 +1,7 @@
 -- Lists of cells at which sound trees stand: what they weigh, and each of them.
 use Rattle.std.proofs.Common.{◌≡◌, ℕ, ◌+◌, ◌*◌, ◌<◌, ◌≤◌, List, [], ◌∷◌, length, get_or, refl, arith}
 use lib.Count.{ones}
-use Rattle.std.specs.List.{AllByRecursion as All}
+use Rattle.std.specs.List.{AllByRecursion}
 use Rattle.std.proofs.ByRecursion.{All-weaker}
 use Rattle.finds.specs.Trees.{Tree, any, Trees, none, more, len, Goods}
 use Rattle.pqtree.specs.Opening.{group}
@@ -43,12 +43,12 @@ parts_union v n (c ∷ cs) none p = absurd p
 parts_union v n (c ∷ cs) (more t ts) p = rw (body_set (seen v) c t p.0.0, parts_union v n cs ts p.1)
 
 -- Each cell is one of the first n.
-parts_below : (R : Cells) (n : ℕ) (cs : List ℕ) (ts : Trees) → Parts R n cs ts → All (λ c. c < n) cs
+parts_below : (R : Cells) (n : ℕ) (cs : List ℕ) (ts : Trees) → Parts R n cs ts → AllByRecursion (λ c. c < n) cs
 parts_below R n [] ts p = tt
 parts_below R n (c ∷ cs) none p = absurd p
 parts_below R n (c ∷ cs) (more t ts) p = (omega (arith, p.0.1, some_nodes t), parts_below R n cs ts p.1)
 
-pub stand_below : (v : View) (n : ℕ) (cs : List ℕ) → AllStand v n cs → All (λ c. c < length v.sets.now) cs
+pub stand_below : (v : View) (n : ℕ) (cs : List ℕ) → AllStand v n cs → AllByRecursion (λ c. c < length v.sets.now) cs
 stand_below v n cs s = All-weaker (λ c. c < n) (λ c. c < length v.sets.now) (λ c l. omega (arith, s.long.sets_long)) cs (parts_below (seen v) n cs s.trees s.parts)
 
 pub stand_few : (v : View) (n : ℕ) (cs : List ℕ) → AllStand v n cs → length cs ≤ 64

@@ -1,6 +1,6 @@
 // Branches chosen and told apart by how much of a kind they have.
 ghost use Rattle.std.specs.Prelude.{◌≡◌, ℕ, ◌<◌, ◌≤◌, false, reverse, length, filter};
-ghost use Rattle.std.specs.List.{AllByRecursion as All};
+ghost use Rattle.std.specs.List.{AllByRecursion};
 ghost use Rattle.changes.specs.Bunches.{listed};
 ghost use Rattle.changes.specs.Shares.{share, has_share, EmptyFirst, in_order, union_of};
 
@@ -57,7 +57,7 @@ impl Bunch {
 
 // Those of the cells whose sets have this share of the mask, in their order.
 pub(crate) fn pick(sets: &[u64], cells: &[u8], mask: u64, want: Share) -> Bunch
-    requires within { All (λ c. c < length sets.now) cells.now }
+    requires within { AllByRecursion (λ c. c < length sets.now) cells.now }
     requires few { length cells.now ≤ 64 }
     ensures few { result.many ≤ 64 }
     ensures many { result.many ≡ length (listed result) }
@@ -79,7 +79,7 @@ pub(crate) fn pick(sets: &[u64], cells: &[u8], mask: u64, want: Share) -> Bunch
 
 // How many of the cells, from the first on, have nothing of the mask.
 pub(crate) fn empty_first(sets: &[u64], cells: &[u8], mask: u64) -> usize
-    requires { All (λ c. c < length sets.now) cells.now }
+    requires { AllByRecursion (λ c. c < length sets.now) cells.now }
     ensures { EmptyFirst sets.now mask cells.now result }
 {
     for (x, cell) in cells.iter().enumerate() {
@@ -93,7 +93,7 @@ pub(crate) fn empty_first(sets: &[u64], cells: &[u8], mask: u64) -> usize
 
 // Whether the cells come in sequence: those with nothing of the mask, at most one with a part of it, those with nothing else.
 pub(crate) fn in_sequence(sets: &[u64], cells: &[u8], mask: u64) -> bool
-    requires { All (λ c. c < length sets.now) cells.now }
+    requires { AllByRecursion (λ c. c < length sets.now) cells.now }
     ensures { result ≡ in_order sets.now mask false cells.now }
 {
     let mut past = false;
@@ -110,7 +110,7 @@ pub(crate) fn in_sequence(sets: &[u64], cells: &[u8], mask: u64) -> bool
 
 // The sets of the cells together.
 pub(crate) fn union(sets: &[u64], cells: &[u8]) -> u64
-    requires { All (λ c. c < length sets.now) cells.now }
+    requires { AllByRecursion (λ c. c < length sets.now) cells.now }
     ensures { result ≡ union_of sets.now cells.now }
 {
     let mut all = 0;

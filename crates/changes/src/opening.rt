@@ -1,6 +1,6 @@
 // Laying a partial tree open into a row of branches.
 ghost use Rattle.std.specs.Prelude.{◌≡◌, ℕ, ◌+◌, ◌*◌, ◌<◌, ◌≤◌, Bool, length, count_ones, slice_index};
-ghost use Rattle.std.specs.List.{AllByRecursion as All};
+ghost use Rattle.std.specs.List.{AllByRecursion};
 ghost use Rattle.changes.specs.Bunches.{listed, AllStand, weight};
 ghost use Rattle.changes.specs.Layouts.{Apart, Bunched, InSequence, LayoutOf};
 ghost use Rattle.changes.specs.Draft.{drafted, Kept};
@@ -38,7 +38,7 @@ pub(crate) fn branches_of(view: View, count: usize, i: usize) -> Bunch
 
 // The cells apart by their share of the mask: those with nothing of it first, those with a part of it in the middle, those with nothing else last.
 pub(crate) fn set_apart(sets: &[u64], cells: &[u8], mask: u64) -> Layout
-    requires within { All (λ c. c < length sets.now) cells.now }
+    requires within { AllByRecursion (λ c. c < length sets.now) cells.now }
     requires few { length cells.now ≤ 64 }
     ensures { Apart sets.now mask cells.now result }
 {
@@ -51,7 +51,7 @@ pub(crate) fn set_apart(sets: &[u64], cells: &[u8], mask: u64) -> Layout
 
 // The cells in sequence, as they are or turned round.
 pub(crate) fn sequence(sets: &[u64], cells: Bunch, mask: u64) -> Option<Bunch>
-    requires within { All (λ c. c < length sets.now) (listed cells) }
+    requires within { AllByRecursion (λ c. c < length sets.now) (listed cells) }
     requires few { cells.many ≤ 64 }
     ensures { InSequence sets.now mask (listed cells) result }
 {

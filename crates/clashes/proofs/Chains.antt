@@ -2,7 +2,7 @@
 use Rattle.std.proofs.Common.{◌≡◌, ℕ, zero, suc, ◌+◌, ◌<◌, true, List, ◌++◌, length, get_or, sym, refl, ap, ◌∙◌, subst, add-one, arith, eq-eqb, ne_eqb}
 use mathlib.Core.Bool.{false≢true}
 use native.Mathlib.Decide.{ℕ_discrete}
-use Rattle.std.specs.List.{AllByRecursion as All}
+use Rattle.std.specs.List.{AllByRecursion}
 use Rattle.std.proofs.lemmas.List.{get_or_default, get_or_past}
 use Rattle.finds.specs.Finds.{Finds, Pair, Ground}
 use Rattle.finds.specs.Parity.{odd}
@@ -24,7 +24,7 @@ module _ {f : Finds} where
   chain_append none d = d
   chain_append (link j c) d = link j (chain_append c d)
 
-  pub chain_proper : {p q : Pair} {l : List Pair} → Chain f p l q → All (Proper f) l
+  pub chain_proper : {p q : Pair} {l : List Pair} → Chain f p l q → AllByRecursion (Proper f) l
   chain_proper none = tt
   chain_proper (link j c) = (joint_left j, chain_proper c)
 

@@ -1,6 +1,6 @@
 -- From a ground to a ring: what leads from a pair back to it is cut out, or is itself a ring.
 use Rattle.std.proofs.Common.{◌≡◌, ℕ, suc, ◌+◌, Bool, true, false, not, ◌≢◌, ◌⊎◌, List, [], ◌∷◌, ◌++◌, length, sym, refl, ap, ◌∙◌, subst, inl, inr, ⊎_elim}
-use Rattle.std.specs.List.{AllByRecursion as All}
+use Rattle.std.specs.List.{AllByRecursion}
 use Rattle.finds.specs.Finds.{Finds, Pair, Walk, here, on, off, Ground}
 use Rattle.finds.specs.Parity.{odd}
 use Rattle.finds.proofs.Parity.{◌⊕◌, not_not, ⊕_not, even}
@@ -11,7 +11,7 @@ use Rattle.clashes.proofs.Chains.{ring, closes_ground}
 
 -- ---- parts of a list
 
-all_left : (P : Pair → Type 0) (u v : List Pair) → All P (u ++ v) → All P u
+all_left : (P : Pair → Type 0) (u v : List Pair) → AllByRecursion P (u ++ v) → AllByRecursion P u
 all_left P [] v h = tt
 all_left P (p ∷ u) v h = (h.0, all_left P u v h.1)
 

@@ -3,7 +3,7 @@
 use Rattle.std.proofs.Common.{◌≡◌, ℕ, zero, suc, ◌+◌, ◌-◌, ◌*◌, ◌%◌, ◌≤◌, true, ◌≢◌, ◌⊎◌, List, [], ◌∷◌, ◌++◌, length, sym, refl, ap, ◌∙◌, subst, inl, inr, ⊎_elim, append_assoc, arith, length-append}
 use mathlib.Core.Logic.{Ne-symm}
 use native.Mathlib.Decide.{dec_le}
-use Rattle.std.specs.List.{AllByRecursion as All}
+use Rattle.std.specs.List.{AllByRecursion}
 use Rattle.std.proofs.ByRecursion.{All-weaker, All-append}
 use Rattle.finds.specs.Finds.{Finds, Pair}
 use Rattle.finds.specs.Parity.{odd}
@@ -17,7 +17,7 @@ use Rattle.clashes.proofs.Short.{pairs_few}
 
 -- ---- one pair more, put between two lists
 
-all_put : (P : Pair → Type 0) (x : Pair) (u v : List Pair) → All P (u ++ v) → P x → All P (u ++ x ∷ v)
+all_put : (P : Pair → Type 0) (x : Pair) (u v : List Pair) → AllByRecursion P (u ++ v) → P x → AllByRecursion P (u ++ x ∷ v)
 all_put P x [] v h k = (k, h)
 all_put P x (y ∷ u) v h k = (h.0, all_put P x u v h.1 k)
 
@@ -81,7 +81,7 @@ module _ {f : Finds} {Seen : Pair → Type 0} {mark : Pair → Mark} (t : Rooted
       seen_p = c.seen;
       seen_q = g.seen_q;
       one_seed = c.same ∙ g.one_seed;
-      under = subst (All Now) (sym (append_assoc u (p ∷ []) v))
+      under = subst (AllByRecursion Now) (sym (append_assoc u (p ∷ []) v))
           (all_put Now p u v (All-weaker (Under mark p q) Now still (u ++ v) g.under) (inr (lower p (omega arith) le)));
       once = subst Once (sym (append_assoc u (p ∷ []) v))
           (once_put p u v g.once (All-weaker (Under mark p q) (λ x. p ≢ x) other (u ++ v) g.under));

@@ -1,7 +1,7 @@
 -- There are n (n - 1) pairs of different graves, so no ring and no queue of such pairs, none twice, is longer.
 use Rattle.std.proofs.Common.{ℕ, suc, ◌-◌, ◌*◌, ◌<◌, ◌≤◌, ◌≢◌, List, [], ◌∷◌, length, sym, refl, ◌∙◌, arith}
 use mathlib.Core.Logic.Dec
-use Rattle.std.specs.List.{AllByRecursion as All}
+use Rattle.std.specs.List.{AllByRecursion}
 use Rattle.std.proofs.ByRecursion.{All-from_get_or}
 use Rattle.finds.specs.Finds.{Finds, Pair}
 use Rattle.clashes.specs.Colours.{pair, Proper}
@@ -33,7 +33,7 @@ module _ (f : Finds) where
   total l = sum (row l) f.graves
 
   -- As many as it is long, at least: each pair more makes one row larger, and none smaller.
-  at_least : (l : List Pair) → Once l → All (Proper f) l → length l ≤ total l
+  at_least : (l : List Pair) → Once l → AllByRecursion (Proper f) l → length l ≤ total l
   at_least [] o h = omega arith
   at_least (p ∷ l) o h = let below = at_least l o.1 h.1 in omega (arith, more)
     where
@@ -47,12 +47,12 @@ module _ (f : Finds) where
           (one_if_lt (in? l p.first p.second) (in? (p ∷ l) p.first p.second) (λ k. k o.0) (λ m. m.0 refl)))
 
   -- No grave is paired with itself, so that each row has fewer than n.
-  no_self : (a : ℕ) (l : List Pair) → All (Proper f) l → Lacks (pair a a) l
+  no_self : (a : ℕ) (l : List Pair) → AllByRecursion (Proper f) l → Lacks (pair a a) l
   no_self a [] h = tt
   no_self a (q ∷ l) h = ((λ e. h.0.2 (sym (first_of e) ∙ second_of e)), no_self a l h.1)
 
   -- So there is room for a queue, and in it for a pair more that it lacks: with that pair it is still no longer.
-  pub pairs_few : (l : List Pair) → Once l → All (Proper f) l → length l ≤ f.graves * (f.graves - 1)
+  pub pairs_few : (l : List Pair) → Once l → AllByRecursion (Proper f) l → length l ≤ f.graves * (f.graves - 1)
   pairs_few l o h =
       let few : (a : ℕ) → a < f.graves → row l a ≤ f.graves - 1 = λ a la. (let z = count_few (in? l a) f.graves a la (λ k. k (no_self a l h)) in omega arith) in
       let x = at_least l o h in let y = sum_le (row l) (λ _. f.graves - 1) f.graves few in let z = sum_same (f.graves - 1) f.graves in omega arith

@@ -1,6 +1,6 @@
 -- Rings: a ground as a list of pairs.
 use Rattle.std.specs.Prelude.{◌≡◌, ℕ, ◌+◌, ◌<◌, Bool, true, false, cond, ◌≢◌, ◌⊎◌, List, [], ◌∷◌, length, get_or, ◌==◌, slice_index_or}
-use Rattle.std.specs.List.{AllByRecursion as All}
+use Rattle.std.specs.List.{AllByRecursion}
 use Rattle.finds.specs.Finds.{Finds, Pair, Clash}
 use Rattle.finds.specs.Parity.{odd}
 use Rattle.clashes.specs.Colours.{pair}
@@ -41,7 +41,7 @@ Closes f ps = (i : ℕ) → i < length ps → Joint f (at ps i) (at ps (after (l
 
 -- The pair is not in the list.
 abbrev pub Lacks : Pair → List Pair → Type 0
-Lacks p ps = All (λ q. p ≢ q) ps
+Lacks p ps = AllByRecursion (λ q. p ≢ q) ps
 
 -- No pair stands twice in the list.
 abbrev pub Once : List Pair → Type 0

@@ -1,6 +1,6 @@
 -- What a search that goes from pair to clashing pair keeps true, and what it keeps true while it reads a ring from its notes.
 use Rattle.std.specs.Prelude.{◌≡◌, ℕ, ◌+◌, ◌%◌, ◌≤◌, ◌≢◌, ◌⊎◌, ◌↔◌, List, ◌++◌, length}
-use Rattle.std.specs.List.{AllByRecursion as All}
+use Rattle.std.specs.List.{AllByRecursion}
 use Rattle.finds.specs.Finds.{Finds, Pair}
 use Rattle.clashes.specs.Colours.{Proper}
 use Rattle.clashes.specs.Rings.{Joint, Chain, Once}
@@ -61,6 +61,6 @@ pub record Legs (f : Finds) (Seen : Pair → Type 0) (mark : Pair → Mark) (p q
   pub seen_p : Seen p
   pub seen_q : Seen q
   pub one_seed : (mark p).seed ≡ (mark q).seed
-  pub under : All (Under mark p q) (u ++ v)
+  pub under : AllByRecursion (Under mark p q) (u ++ v)
   pub once : Once (u ++ v)
   pub uneven : (length u + length v + ((mark p).depth + (mark q).depth)) % 2 ≡ 1

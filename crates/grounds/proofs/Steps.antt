@@ -4,7 +4,7 @@ use mathlib.Core.Logic.{if_pos}
 use native.Mathlib.Decide.{ℕ_discrete}
 use Rattle.std.proofs.lemmas.Nat.{div-mul-add, le-div}
 use Rattle.std.proofs.lemmas.List.{get_or-set_same}
-use Rattle.std.specs.List.{AllByRecursion as All}
+use Rattle.std.specs.List.{AllByRecursion}
 use Rattle.finds.specs.Finds.{Finds, Pair}
 use Rattle.finds.specs.Exactness.{SomeFits}
 use Rattle.clashes.specs.Colours.{pair, Proper}
@@ -51,7 +51,7 @@ module _ (f : Finds) where
     listed_length zero = refl
     listed_length (suc t) = ap suc (listed_length t)
 
-    listed_all : (P : Pair → Type 0) (t : ℕ) → ((i : ℕ) → i < t → P (numbered f.graves (get_or queue i 0))) → All P (listed t)
+    listed_all : (P : Pair → Type 0) (t : ℕ) → ((i : ℕ) → i < t → P (numbered f.graves (get_or queue i 0))) → AllByRecursion P (listed t)
     listed_all P zero h = tt
     listed_all P (suc t) h = (h t (omega arith), listed_all P t (λ i l. h i (omega arith)))
 
@@ -69,7 +69,7 @@ module _ (f : Finds) where
             let a = listed_at t (omega arith) in let b = listed_at i (omega arith) in
             k.apart i t h (omega arith) (b.3 ∙ ap (number f.graves) (sym b.2 ∙ sym e ∙ a.2) ∙ sym a.3)
 
-    listed_proper : All (Proper f) (listed tail)
+    listed_proper : AllByRecursion (Proper f) (listed tail)
     listed_proper = listed_all (Proper f) tail (λ i h. let a = listed_at i h in subst (Proper f) (sym a.2) a.1.0)
 
     -- The queue has no more pairs than there are.
