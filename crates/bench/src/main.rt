@@ -37,13 +37,12 @@ struct Tally {
     refused: u64,
 }
 
-// The mode by its word.
-fn mode_of(word: &str) -> Option<Mode> {
+// The mode by its word; any other word is for the tree alone.
+fn mode_of(word: &str) -> Mode {
     match word {
-        "tree" => Some(Mode::Tree),
-        "whole" => Some(Mode::Whole),
-        "text" => Some(Mode::Text),
-        _ => None,
+        "whole" => Mode::Whole,
+        "text" => Mode::Text,
+        _ => Mode::Tree,
     }
 }
 
@@ -178,9 +177,7 @@ fn run(rt: &HostRuntime) -> anyhow::Result<()> {
     let (Some(word), Some(path), Some(rounds)) = (args.next(), args.next(), args.next()) else {
         return Err(anyhow!("call it as: bench tree|whole|text FILE ROUNDS [time]"));
     };
-    let Some(mode) = mode_of(word.as_str()) else {
-        return Err(anyhow!("the first word is tree, whole or text"));
-    };
+    let mode = mode_of(word.as_str());
     let rounds = rounds.as_str().parse::<u32>()?;
     let timed = args.next().is_some();
     let bytes = fs::read(rt, path.as_str())?;

@@ -3,7 +3,7 @@
 
 use answers::printed::Ending;
 use answers::seriating::seriate_text;
-use anyhow::anyhow;
+use std::process::ExitCode;
 use std::{env, fs};
 
 fn run(rt: &HostRuntime) -> anyhow::Result<Ending> {
@@ -26,10 +26,9 @@ fn run(rt: &HostRuntime) -> anyhow::Result<Ending> {
     }
 }
 
-fn main(rt: HostRuntime) -> anyhow::Result<()> {
-    match run(&rt) {
-        Ok(Ending::Answered) => Ok(()),
-        Ok(Ending::TurnedAway) => Err(anyhow!("turned away")),
-        Err(e) => Err(e),
+fn main(rt: HostRuntime) -> anyhow::Result<ExitCode> {
+    match run(&rt)? {
+        Ending::Answered => Ok(ExitCode::SUCCESS),
+        Ending::TurnedAway => Ok(ExitCode::FAILURE),
     }
 }

@@ -3,7 +3,7 @@
 
 use answers::printed::Ending;
 use answers::verifying::{order_text, ring_text};
-use anyhow::anyhow;
+use std::process::ExitCode;
 use std::{env, fs, io};
 
 // What is to be checked.
@@ -88,10 +88,9 @@ fn run(rt: &HostRuntime) -> anyhow::Result<Ending> {
     Ok(printed.ending)
 }
 
-fn main(rt: HostRuntime) -> anyhow::Result<()> {
-    match run(&rt) {
-        Ok(Ending::Answered) => Ok(()),
-        Ok(Ending::TurnedAway) => Err(anyhow!("turned away")),
-        Err(e) => Err(e),
+fn main(rt: HostRuntime) -> anyhow::Result<ExitCode> {
+    match run(&rt)? {
+        Ending::Answered => Ok(ExitCode::SUCCESS),
+        Ending::TurnedAway => Ok(ExitCode::FAILURE),
     }
 }
