@@ -63,7 +63,7 @@ def spelled(name):
     if name in KEPT:
         return KEPT[name]
     if name[0].isupper():
-        return "".join(w[:1].upper() + w[1:] for w in name.split("-"))
+        return "".join(w[:1].upper() + w[1:] for w in re.split("[-_]", name))
     return re.sub(r"(?<=[a-z])(?=[A-Z])", "_", name).lower().replace("-", "_")
 
 

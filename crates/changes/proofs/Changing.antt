@@ -18,7 +18,7 @@ use Rattle.changes.specs.declared.changed.Changed.{Changed}
 use Rattle.changes.specs.declared.changed.Changed.TheVariants.{Made, NoOrder}
 use Rattle.changes.specs.Draft.{Kept}
 use Rattle.changes.specs.Splice.{having, Drawn}
-use Rattle.changes.specs.Whole.{Holding, number_of, cells_of, Stepped, Right, Goes_on, Changes}
+use Rattle.changes.specs.Whole.{Holding, number_of, cells_of, Stepped, Right, GoesOn, Changes}
 use Rattle.changes.proofs.Same.{holds_same}
 use Rattle.changes.proofs.Splicing.{having_body}
 use Rattle.changes.proofs.Redrawing.{has_mask, step_many, step_sound}
@@ -66,7 +66,7 @@ module _ {R : Lent} {count : ℕ} (h : Holding R count) (kind : ℕ) where
   all_is : having (held R) kind 0 ≡ count_t (has kind) true h.tree
   all_is = having_body (has kind) kind (has_mask kind) (held R) 0 h.tree h.holds.body h.sound
 
-  goes_on : (S : Lent) (r : Changed) (o : Outcome) → shortest S ≡ shortest R → step (has kind) h.tree ≡ o → Stepped S r o → Goes_on S r
+  goes_on : (S : Lent) (r : Changed) (o : Outcome) → shortest S ≡ shortest R → step (has kind) h.tree ≡ o → Stepped S r o → GoesOn S r
   goes_on S (Made c) torn l e b = absurd b
   goes_on S (Made c) (made u) l e b =
       let z = step_size (has kind) h.tree u h.sound.good e in

@@ -42,9 +42,9 @@ Right f S (Made c) = (u : Tree) × Holds (held S) c u × Sound u × Exactly f u 
 Right f S NoOrder = NoneFits f
 
 -- Where there is a tree, the rows can be changed again.
-abbrev pub Goes_on : Lent → Changed → Type 0
-Goes_on S (Made c) = Holding S c
-Goes_on S NoOrder = Unit {0}
+abbrev pub GoesOn : Lent → Changed → Type 0
+GoesOn S (Made c) = Holding S c
+GoesOn S NoOrder = Unit {0}
 
 -- What a change for the kind promises: R are the rows before and S those after it, count is the number of cells before, and r the answer.
 pub record Changes (R S : Lent) (count kind : ℕ) (r : Changed) : Type 0 where
@@ -56,4 +56,4 @@ pub record Changes (R S : Lent) (count kind : ℕ) (r : Changed) : Type 0 where
   pub few : (t : Tree) → Holds (held R) count t → count_t (has kind) true t < 2 → (number_of r ≡ 0) × (cells_of r ≡ count) × SameFrom 0 R S
   -- Behind the tree the rows are as they were; and all of them, where there is none.
   pub rest : SameFrom (cells_of r) R S
-  pub goes_on : Goes_on S r
+  pub goes_on : GoesOn S r
