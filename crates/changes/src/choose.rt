@@ -1,5 +1,5 @@
 // Branches chosen and told apart by how much of a kind they have.
-ghost use Rattle.std.specs.Prelude.{◌≡◌, ℕ, ◌<◌, ◌≤◌, false, reverse, length, filter};
+ghost use Rattle.std.specs.Prelude.{◌≡◌, ◌<◌, ◌≤◌, false, reverse, length, filter};
 ghost use Rattle.std.specs.List.{AllByRecursion};
 ghost use Rattle.changes.specs.Bunches.{listed};
 ghost use Rattle.changes.specs.Shares.{share, has_share, EmptyFirst, in_order, union_of};

@@ -1,5 +1,5 @@
 // The change at the smallest part that holds all graves of the kind.
-ghost use Rattle.std.specs.Prelude.{◌≡◌, ℕ, ◌+◌, ◌*◌, ◌<◌, ◌≤◌, length, count_ones, slice_index};
+ghost use Rattle.std.specs.Prelude.{◌≡◌, ◌+◌, ◌*◌, ◌<◌, ◌≤◌, length, count_ones, slice_index};
 ghost use Rattle.changes.specs.Bunches.{AllStand, weight};
 ghost use Rattle.changes.specs.Draft.{drafted, Kept, Rebuilt};
 ghost use Rattle.finds.specs.Sets.{has};

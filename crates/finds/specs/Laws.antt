@@ -30,7 +30,7 @@ abbrev pub TurnedFits : Type 0
 TurnedFits =
     (f : Finds) (o q : Order f.graves) → ((g : ℕ) → g < f.graves → o.place g + q.place g + 1 ≡ f.graves) → Fits f o → Fits f q
 
--- The kinds may come in any sequence: the same orders fit. (List.Permᴰ is the library's permutation of lists, which goes both ways.)
+-- The kinds may come in any sequence: the same orders fit. (Permᴰ is the library's permutation of lists, which goes both ways.)
 abbrev pub AnySequence : Type 0
 AnySequence = (n : ℕ) (xs ys : List (ℕ → Bool)) (o : Order n) → Permᴰ xs ys →
     (Fits (record { graves = n; kinds = xs }) o → Fits (record { graves = n; kinds = ys }) o)

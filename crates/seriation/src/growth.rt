@@ -1,10 +1,9 @@
 // Growing the tree in lent rows, kind after kind.
-ghost use Rattle.std.specs.Prelude.{◌≡◌, ℕ, ◌<◌, ◌≤◌};
+ghost use Rattle.std.specs.Prelude.{◌<◌, ◌≤◌};
 ghost use Rattle.seriation.specs.Building.{Grown, Staged, Cleared, Builds};
 ghost use Rattle.tables.specs.Format.{finds_of_sets};
 ghost use Rattle.tables.specs.Room.{branches_for};
-ghost use Rattle.trees.specs.Cells.{lent, held, shortest};
-ghost use Rattle.trees.specs.Starting.{SameFrom};
+ghost use Rattle.trees.specs.Cells.{lent, shortest};
 
 use crate::built::{Built, Stage};
 use changes::changed::Changed;

@@ -1,8 +1,8 @@
 // The checker of an order from elsewhere.
-ghost use Rattle.std.specs.Prelude.{◌≡◌, ℕ, ◌+◌, ◌*◌, ◌%◌, ◌^◌, ◌<◌, ◌≤◌, true, false, length, None, MatchOption, ◌≢◌, slice_index};
+ghost use Rattle.std.specs.Prelude.{◌≡◌, ℕ, ◌<◌, ◌≤◌, true, false, length, None, MatchOption, ◌≢◌, slice_index};
 ghost use Rattle.finds.specs.Sets.{has};
-ghost use Rattle.tables.specs.Format.{kind_set, finds_in};
-ghost use Rattle.tables.specs.Orders.{BadPlace, IsBadOrder, GoodOrder, Between, Judged, OrderAnswer};
+ghost use Rattle.tables.specs.Format.{finds_in};
+ghost use Rattle.tables.specs.Orders.{BadPlace, GoodOrder, Between, Judged, OrderAnswer};
 
 use crate::reading::{kind_at, read};
 use crate::refusal::Refusal;

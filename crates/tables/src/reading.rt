@@ -1,5 +1,5 @@
 // The reader of a table's file: each check hands on its value or names the refusal.
-ghost use Rattle.std.specs.Prelude.{◌≡◌, ℕ, ◌+◌, ◌*◌, ◌%◌, ◌^◌, ◌<◌, ◌≤◌, length, drop, MatchBool, MatchOption};
+ghost use Rattle.std.specs.Prelude.{◌≡◌, ℕ, ◌+◌, ◌*◌, ◌^◌, ◌<◌, ◌≤◌, length, drop, MatchBool, MatchOption};
 ghost use Rattle.tables.specs.Format.{word_at, kind_set, graves_of, kind_count};
 ghost use Rattle.tables.specs.Reading.{BadGraves, BadKinds, BadLength, Shortage, Stray, Reads};
 

@@ -25,7 +25,7 @@ pub fn allows(view: View, count: usize, row: &[u8]) -> Option<bool>
 }
 
 // Whether the part with its root in cell i allows the row, which is as long as the part has graves.
-#[cycle(any_allows_part_allows_row_allows)]
+#[cycle(allowing)]
 pub fn part_allows(view: View, count: usize, i: usize, row: &[u8]) -> bool
     requires stands { Stands view count i }
     requires long { length row.now ≡ count_ones ((seen view).set i) }
@@ -42,7 +42,7 @@ pub fn part_allows(view: View, count: usize, i: usize, row: &[u8]) -> bool
 }
 
 // The same of branches in any order: the first grave of what is left of the row tells which branch comes next.
-#[cycle(any_allows_part_allows_row_allows)]
+#[cycle(allowing)]
 fn any_allows(view: View, count: usize, i: usize, row: &[u8]) -> bool
     requires stands { Stands view count i }
     requires sort { (seen view).sort i ≡ 1 }
@@ -69,7 +69,7 @@ fn any_allows(view: View, count: usize, i: usize, row: &[u8]) -> bool
 }
 
 // The same of branches in a row: whether it is turned round is told by the first grave.
-#[cycle(any_allows_part_allows_row_allows)]
+#[cycle(allowing)]
 fn row_allows(view: View, count: usize, i: usize, row: &[u8]) -> bool
     requires stands { Stands view count i }
     requires sort { (seen view).sort i ≡ 2 }

@@ -27,7 +27,7 @@ pub fn is_tree(view: View, count: usize) -> bool
 }
 
 // The first cell behind the part that has its root in cell i, if a sound tree stands there.
-#[cycle(checked_branches_checked_end)]
+#[cycle(checking)]
 fn checked_end(view: View, count: usize, i: usize) -> Option<usize>
     requires long { Long view count }
     requires few { count ≤ 127 }
@@ -46,7 +46,7 @@ fn checked_end(view: View, count: usize, i: usize) -> Option<usize>
 }
 
 // The same of a cell that is no grave, and is to have so many branches at least.
-#[cycle(checked_branches_checked_end)]
+#[cycle(checking)]
 fn checked_branches(view: View, count: usize, i: usize, least: usize) -> Option<usize>
     requires long { Long view count }
     requires few { count ≤ 127 }

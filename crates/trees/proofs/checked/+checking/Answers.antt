@@ -4,7 +4,7 @@ use Rattle.trees.specs.Sorts.{code_of}
 use Rattle.trees.proofs.Checking.{grave_checked, grave_not, checking_start, checking_more, checking_next, checking_yes, checking_no}
 use Rattle.trees.proofs.Deciding.{denied}
 use Rattle.trees.proofs.Standing.{sort_low}
-use Rattle.trees.proofs.checked.+checked_branches_checked_end.Goals as goal
+use Rattle.trees.proofs.checked.+checking.Goals as goal
 
 -- ---- the branches of a cell
 

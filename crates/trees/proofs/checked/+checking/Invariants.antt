@@ -1,7 +1,7 @@
 use Rattle.std.proofs.Common.{◌+◌, ◌-◌, ◌*◌}
 use Rattle.trees.specs.Rows.{seen}
 use Rattle.trees.proofs.Checking.{Checking}
-use Rattle.trees.proofs.checked.+checked_branches_checked_end.Given as goal
+use Rattle.trees.proofs.checked.+checking.Given as goal
 
 -- A branch lies behind its root, so the cells that are left grow fewer.
 abbrev pub decreases-checked_branches : goal.decreases-checked_branches

@@ -15,7 +15,7 @@ use Rattle.trees.proofs.Picking.{Picked, picked_start, pick, pick_size, picked_m
 use Rattle.trees.proofs.Standing.{stands_size, part_size, kids_set, kids_size, kids_room, sort_low, is_any}
 use Rattle.trees.proofs.Taking.{Taken, taken_start, taken_more, taken_not, taken_end, way}
 use Rattle.trees.proofs.Walking.{walk_start, walk_next, walk_more, walk_end, walk_stands, next_sound, with_part, with_sound}
-use Rattle.trees.proofs.allowed.+any_allows_part_allows_row_allows.Goals as goal
+use Rattle.trees.proofs.allowed.+allowing.Goals as goal
 
 -- ---- branches in any order
 

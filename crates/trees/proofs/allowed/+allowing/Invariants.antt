@@ -5,7 +5,7 @@ use Rattle.trees.specs.Rows.{seen}
 use Rattle.trees.proofs.Picking.{Picked}
 use Rattle.trees.proofs.Taking.{Taken}
 use Rattle.trees.proofs.Walking.{Walked}
-use Rattle.trees.proofs.allowed.+any_allows_part_allows_row_allows.Given as goal
+use Rattle.trees.proofs.allowed.+allowing.Given as goal
 
 -- A branch lies behind its root, so the cells that are left grow fewer.
 abbrev pub decreases-any_allows : goal.decreases-any_allows
