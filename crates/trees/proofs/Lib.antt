@@ -10,3 +10,7 @@ pub mod Writing
 pub mod Starting
 pub mod Checking
 pub mod Leaves
+pub mod Finding
+pub mod Ending
+pub mod Stepping
+pub mod Roots

@@ -1,9 +1,11 @@
 -- What stays when cells are written.
-use Rattle.std.proofs.Common.{◌≡◌, ℕ, ◌+◌, ◌<◌, ◌≤◌, ◌≢◌, List, length, get_or, drop, set, sym, ap, ◌∙◌, arith}
+use Rattle.std.proofs.Common.{◌≡◌, ℕ, ◌+◌, ◌<◌, ◌≤◌, ◌≢◌, List, length, get_or, drop, set, sym, refl, ap, ◌∙◌, arith}
 use Rattle.std.proofs.lemmas.List.{get_or-set_same, get_or-set_other, drop-set-lt, drop-drop}
 use Rattle.finds.specs.Trees.{Trees}
 use Rattle.trees.specs.Cells.{all_nodes, Cells, Lent, held, shortest, Ats}
+use Rattle.trees.specs.Rows.{lent_rows, SameSlices}
 use Rattle.trees.specs.Starting.{SameFrom}
+use Rattle.trees.specs.declared.rows.Rows.{Rows}
 use Rattle.trees.proofs.Cells.{Moved, ats_moved}
 
 -- Cell x holds the same in R and in S.
@@ -63,4 +65,20 @@ put_kept {p} {s} {q} {m} n {before = b} {r = r} w k = record {
   sorts = ap (drop (n + 1)) w.sorts ∙ kept_more n s r.sorts b.sorts k.sorts;
   places = ap (drop (n + 1)) w.places ∙ kept_more n q r.places b.places k.places;
   sets = ap (drop (n + 1)) w.sets ∙ kept_more n m r.sets b.sets k.sets;
+}
+
+-- The same slices have room for as many cells as before.
+pub same_room : {r s : Rows} → SameSlices r s → shortest (lent_rows s) ≡ shortest (lent_rows r)
+same_room k = rw (k.parents_long, k.sorts_long, k.places_long, k.sets_long) refl
+
+pub slices_kept : {r s u : Rows} → SameSlices r s → SameSlices s u → SameSlices r u
+slices_kept k l = record {
+  parents = l.parents ∙ k.parents;
+  sorts = l.sorts ∙ k.sorts;
+  places = l.places ∙ k.places;
+  sets = l.sets ∙ k.sets;
+  parents_long = l.parents_long ∙ k.parents_long;
+  sorts_long = l.sorts_long ∙ k.sorts_long;
+  places_long = l.places_long ∙ k.places_long;
+  sets_long = l.sets_long ∙ k.sets_long;
 }

@@ -2,8 +2,10 @@ pub mod Cells
 pub mod Masks
 pub mod Sorts
 pub mod Rows
+pub mod Subtrees
 pub mod Walks
 pub mod Reading
 pub mod Starting
 pub mod Checks
+pub mod Wholes
 pub mod Answering

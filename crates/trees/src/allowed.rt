@@ -2,92 +2,82 @@
 ghost use Rattle.std.specs.Prelude.{◌≡◌, ◌+◌, ◌≤◌, length, Decides, count_ones};
 ghost use Rattle.finds.specs.Trees.{Tree, Allows};
 ghost use Rattle.trees.specs.Answering.{Answers};
-ghost use Rattle.trees.specs.Cells.{Part, Sound};
+ghost use Rattle.trees.specs.Cells.{Sound};
 ghost use Rattle.trees.specs.Reading.{beginning_of};
-ghost use Rattle.trees.specs.Rows.{seen, Stands};
+ghost use Rattle.trees.specs.Rows.{seen};
+ghost use Rattle.trees.specs.Subtrees.{Is, set_at};
 
-use crate::checked::is_tree;
-use crate::rows::{Sort, View, sort_of};
-use crate::walk::{branch_with, graves_at, next_after};
+use crate::rows::{Sort, View};
+use crate::subtree::Subtree;
+use crate::whole::WholeTree;
 use tables::sets::contains;
 
 // Whether the tree in the first `count` cells allows the row of graves; None if they hold no tree.
-pub fn allows(view: View, count: usize, row: &[u8]) -> Option<bool>
-    ensures { Answers view.entry count row.now result }
+pub fn allows(rows: View, count: usize, row: &[u8]) -> Option<bool>
+    ensures { Answers rows.entry count row.now result }
 {
-    if !is_tree(view, count) {
-        return None;
-    }
-    if row.len() != graves_at(view, count, 0) {
+    let tree = WholeTree::find(rows, count)?.root();
+    if row.len() != tree.size() {
         return Some(false);
     }
-    Some(part_allows(view, count, 0, row))
+    Some(part_allows(tree, row))
 }
 
-// Whether the part with its root in cell i allows the row, which is as long as the part has graves.
+// Whether the part allows the row, which is as long as the part has graves.
 #[cycle(allowing)]
-pub fn part_allows(view: View, count: usize, i: usize, row: &[u8]) -> bool
-    requires stands { Stands view count i }
-    requires long { length row.now ≡ count_ones ((seen view).set i) }
-    ensures { (t : Tree) → Part (seen view.entry) count i t → Sound t → Decides result (Allows t row.now) }
+pub fn part_allows(part: Subtree, row: &[u8]) -> bool
+    requires { length row.now ≡ count_ones (set_at part) }
+    ensures { (t : Tree) → Is part.entry t → Sound t → Decides result (Allows t row.now) }
 {
-    let Some(sort) = sort_of(view.sorts[i]) else {
-        return false;
-    };
-    match sort {
-        Sort::Grave => contains(view.sets[i], row[0]),
-        Sort::Any => any_allows(view, count, i, row),
-        Sort::Row => row_allows(view, count, i, row),
+    match part.sort() {
+        Sort::Grave => contains(part.graves(), row[0]),
+        Sort::Any => any_allows(part, row),
+        Sort::Row => row_allows(part, row),
     }
 }
 
 // The same of branches in any order: the first grave of what is left of the row tells which branch comes next.
 #[cycle(allowing)]
-fn any_allows(view: View, count: usize, i: usize, row: &[u8]) -> bool
-    requires stands { Stands view count i }
-    requires sort { (seen view).sort i ≡ 1 }
-    requires long { length row.now ≡ count_ones ((seen view).set i) }
-    ensures { (t : Tree) → Part (seen view.entry) count i t → Sound t → Decides result (Allows t row.now) }
+fn any_allows(part: Subtree, row: &[u8]) -> bool
+    requires sort { (seen part.rows).sort part.root ≡ 1 }
+    requires long { length row.now ≡ count_ones (set_at part) }
+    ensures { (t : Tree) → Is part.entry t → Sound t → Decides result (Allows t row.now) }
 {
-    let mut left = view.sets[i];
-    let mut at = 0;
-    while at < row.len() {
-        if !contains(left, row[at]) {
+    let mut left = part.graves();
+    let mut rest = row;
+    while let Some(grave) = rest.first() {
+        if !contains(left, *grave) {
             return false;
         }
-        let Some(branch) = branch_with(view, count, i, row[at]) else {
+        let Some(branch) = part.branch_with(*grave) else {
             return false;
         };
-        let many = graves_at(view, count, branch);
-        if !part_allows(view, count, branch, &row[at..at + many]) {
+        let (its, others) = rest.split_at(branch.size());
+        if !part_allows(branch, its) {
             return false;
         }
-        left ^= view.sets[branch];
-        at += many;
+        left ^= branch.graves();
+        rest = others;
     }
     true
 }
 
 // The same of branches in a row: whether it is turned round is told by the first grave.
 #[cycle(allowing)]
-fn row_allows(view: View, count: usize, i: usize, row: &[u8]) -> bool
-    requires stands { Stands view count i }
-    requires sort { (seen view).sort i ≡ 2 }
-    requires long { length row.now ≡ count_ones ((seen view).set i) }
-    ensures { (t : Tree) → Part (seen view.entry) count i t → Sound t → Decides result (Allows t row.now) }
+fn row_allows(part: Subtree, row: &[u8]) -> bool
+    requires sort { (seen part.rows).sort part.root ≡ 2 }
+    requires long { length row.now ≡ count_ones (set_at part) }
+    ensures { (t : Tree) → Is part.entry t → Sound t → Decides result (Allows t row.now) }
 {
-    let back = !contains(view.sets[i + 1], row[0]);
-    let end = next_after(view, count, i);
-    let mut branch = i + 1;
+    let back = !contains(part.rows.sets[part.root + 1], row[0]);
     let mut at = 0;
-    while branch < end {
-        let many = graves_at(view, count, branch);
+    for branch in part.branches() {
+        let many = branch.size();
         let begin = begin_of(back, at, many, row.len());
-        if !part_allows(view, count, branch, &row[begin..begin + many]) {
+        if !part_allows(branch, &row[begin..begin + many]) {
             return false;
         }
         at += many;
-        branch = next_after(view, count, branch);
     }
     true
 }

@@ -1,38 +1,26 @@
 // The tree without kinds.
 ghost use Rattle.std.specs.Prelude.{◌<◌, ◌≤◌};
-ghost use Rattle.trees.specs.Cells.{lent, shortest};
+ghost use Rattle.trees.specs.Cells.{shortest};
+ghost use Rattle.trees.specs.Rows.{lent_rows, SameSlices};
 ghost use Rattle.trees.specs.Starting.{Starts, Graves, GraveCell};
 
-use crate::rows::{Cell, Sort, put};
+use crate::rows::{Cell, Rows, Sort};
 
 // Writes the tree of n graves without kinds into the rows, and answers how many cells it has.
 // None, and nothing changed, if there are no graves or more than 64, or a row has fewer than 2 n - 1 cells.
-pub fn start(
-    n: u8,
-    parents: &mut [u8],
-    sorts: &mut [u8],
-    places: &mut [u8],
-    sets: &mut [u64],
-) -> Option<usize>
-    ensures { Starts n (lent parents.old sorts.old places.old sets.old) (lent parents.new sorts.new places.new sets.new) result }
+pub fn start(n: u8, rows: &mut Rows) -> Option<usize>
+    ensures starts { Starts n (lent_rows rows.old) (lent_rows rows.new) result }
+    ensures same { SameSlices rows.old rows.new }
 {
-    let room = parents
-        .len()
-        .min(sorts.len())
-        .min(places.len().min(sets.len()));
-    if n == 0 || n > 64 || room < 2 * n as usize - 1 {
+    if n == 0 || n > 64 || rows.room() < 2 * n as usize - 1 {
         return None;
     }
     if n == 1 {
-        put(parents, sorts, places, sets, 0, grave_cell(0));
+        rows.put(0, grave_cell(0));
         return Some(1);
     }
-    let graves = put_graves(n, parents, sorts, places, sets);
-    put(
-        parents,
-        sorts,
-        places,
-        sets,
+    let graves = put_graves(n, rows);
+    rows.put(
         0,
         Cell {
             parent: 0,
@@ -45,21 +33,16 @@ pub fn start(
 }
 
 // Writes the first n graves into the cells from 1 on, as branches of cell 0, and answers their set.
-fn put_graves(
-    n: u8,
-    parents: &mut [u8],
-    sorts: &mut [u8],
-    places: &mut [u8],
-    sets: &mut [u64],
-) -> u64
+fn put_graves(n: u8, rows: &mut Rows) -> u64
     requires few { n ≤ 64 }
-    requires room { n < shortest (lent parents.old sorts.old places.old sets.old) }
-    ensures { Graves n result (lent parents.old sorts.old places.old sets.old) (lent parents.new sorts.new places.new sets.new) }
+    requires room { n < shortest (lent_rows rows.old) }
+    ensures graves { Graves n result (lent_rows rows.old) (lent_rows rows.new) }
+    ensures same { SameSlices rows.old rows.new }
 {
     let mut all = 0;
     for g in 0..n {
         let cell = grave_cell(g);
-        put(parents, sorts, places, sets, g as usize + 1, cell);
+        rows.put(g as usize + 1, cell);
         all |= cell.graves;
     }
     all

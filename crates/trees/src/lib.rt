@@ -2,8 +2,8 @@
 #![tactic(auto)]
 
 pub mod allowed;
-pub mod checked;
 pub mod first;
 pub mod front;
 pub mod rows;
-pub mod walk;
+pub mod subtree;
+pub mod whole;

@@ -1,7 +1,8 @@
 // The rows of a tree, and what stands in their cells.
-ghost use Rattle.std.specs.Prelude.{◌≡◌, ◌<◌, MatchOption, slice_set};
-ghost use Rattle.trees.specs.Sorts.{code_of};
-ghost use Rattle.trees.specs.Cells.{lent, shortest};
+ghost use Rattle.std.specs.Prelude.{◌≡◌, ◌<◌, slice_set};
+ghost use Rattle.trees.specs.Cells.{shortest};
+ghost use Rattle.trees.specs.Rows.{seen_rows, lent_rows, SameSlices};
+ghost use Rattle.trees.specs.Sorts.{code_of, Decodes};
 
 // The four rows of a tree, to be read together.
 #[derive(Clone, Copy)]
@@ -12,26 +13,26 @@ pub struct View<'a> {
     pub sets: &'a [u64],
 }
 
+// The four rows of a tree, to be written together.
+#[derive(Drop)]
+pub struct Rows<'a> {
+    pub parents: &'a mut [u8],
+    pub sorts: &'a mut [u8],
+    pub places: &'a mut [u8],
+    pub sets: &'a mut [u64],
+}
+
 // What a cell stands for: a grave, branches in any order, or branches in a row.
-#[derive(Clone, Copy)]
+#[derive(Clone, Copy, PartialEq, Eq, Debug, Drop)]
 pub enum Sort {
     Grave,
     Any,
     Row,
 }
 
-impl Sort {
-    // The number that stands for the sort in a cell.
-    pub fn code(self) -> u8
-        ensures { result ≡ code_of self }
-    {
-        match self {
-            Sort::Grave => 0,
-            Sort::Any => 1,
-            Sort::Row => 2,
-        }
-    }
-}
+// A number that stands for no sort.
+#[derive(Clone, Copy, PartialEq, Eq, Debug, Drop)]
+pub struct NoSort(pub u8);
 
 // What a cell of a tree holds in its four rows.
 #[derive(Clone, Copy)]
@@ -42,35 +43,75 @@ pub struct Cell {
     pub graves: u64,
 }
 
-// The sort that a cell's number stands for.
-pub fn sort_of(code: u8) -> Option<Sort>
-    ensures { MatchOption result (2 < code) (λ s. code_of s ≡ code) }
-{
-    match code {
-        0 => Some(Sort::Grave),
-        1 => Some(Sort::Any),
-        2 => Some(Sort::Row),
-        _ => None,
+// The number that stands for the sort in a cell.
+impl From<Sort> for u8 {
+    ghost from_gives = { λ s r. r ≡ code_of s };
+
+    fn from(sort: Sort) -> u8 {
+        sort as u8
     }
 }
 
-// Writes a cell into the rows.
-pub fn put(
-    parents: &mut [u8],
-    sorts: &mut [u8],
-    places: &mut [u8],
-    sets: &mut [u64],
-    i: usize,
-    cell: Cell,
-)
-    requires { i < shortest (lent parents.old sorts.old places.old sets.old) }
-    ensures parents_after { parents.new ≡ slice_set parents.old i cell.parent }
-    ensures sorts_after { sorts.new ≡ slice_set sorts.old i (code_of cell.sort) }
-    ensures places_after { places.new ≡ slice_set places.old i cell.place }
-    ensures sets_after { sets.new ≡ slice_set sets.old i cell.graves }
-{
-    parents[i] = cell.parent;
-    sorts[i] = cell.sort.code();
-    places[i] = cell.place;
-    sets[i] = cell.graves;
+// The sort that a cell's number stands for.
+impl TryFrom<u8> for Sort {
+    type Error = NoSort;
+
+    ghost try_from_gives = { Decodes };
+
+    fn try_from(code: u8) -> Result<Sort, NoSort> {
+        match code {
+            0 => Ok(Sort::Grave),
+            1 => Ok(Sort::Any),
+            2 => Ok(Sort::Row),
+            _ => Err(NoSort(code)),
+        }
+    }
+}
+
+impl View<'_> {
+    // For how many cells there is room: for as many as the shortest of the rows has.
+    pub fn room(self) -> usize
+        ensures { result ≡ shortest (seen_rows self.entry) }
+    {
+        self.parents
+            .len()
+            .min(self.sorts.len())
+            .min(self.places.len().min(self.sets.len()))
+    }
+}
+
+impl Rows<'_> {
+    // The rows, to be read.
+    pub fn view(&self) -> View<'_>
+        ensures { seen_rows result ≡ lent_rows self.now }
+    {
+        View {
+            parents: self.parents,
+            sorts: self.sorts,
+            places: self.places,
+            sets: self.sets,
+        }
+    }
+
+    // For how many cells there is room.
+    pub fn room(&self) -> usize
+        ensures { result ≡ shortest (lent_rows self.now) }
+    {
+        self.view().room()
+    }
+
+    // Writes a cell.
+    pub fn put(&mut self, i: usize, cell: Cell)
+        requires { i < shortest (lent_rows self.old) }
+        ensures parents_after { self.new.parents.now ≡ slice_set self.old.parents.now i cell.parent }
+        ensures sorts_after { self.new.sorts.now ≡ slice_set self.old.sorts.now i (code_of cell.sort) }
+        ensures places_after { self.new.places.now ≡ slice_set self.old.places.now i cell.place }
+        ensures sets_after { self.new.sets.now ≡ slice_set self.old.sets.now i cell.graves }
+        ensures same { SameSlices self.old self.new }
+    {
+        self.parents[i] = cell.parent;
+        self.sorts[i] = cell.sort.into();
+        self.places[i] = cell.place;
+        self.sets[i] = cell.graves;
+    }
 }

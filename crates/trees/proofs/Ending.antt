@@ -1,0 +1,82 @@
+-- Where a part ends, and walks over its branches from root to root.
+use Rattle.std.proofs.Common.{◌≡◌, ℕ, ◌+◌, ◌-◌, ◌<◌, ◌≤◌, List, get_or, take, drop, length, sym, refl, ap, ◌∙◌, subst, inl, inr, add-one, arith}
+use Rattle.std.proofs.lemmas.List.{get_or-take, get_or-drop, length-take, length-drop}
+use Rattle.finds.specs.Trees.{Tree, Trees, none, more}
+use Rattle.trees.specs.Cells.{nodes, all_nodes, kids, Part, Parts, roots, Sounds}
+use Rattle.trees.specs.Rows.{seen, Long, Row, Stands}
+use Rattle.trees.specs.declared.rows.View.{View}
+use Rattle.trees.proofs.Cells.{some_nodes, kids_nodes, kids_parts, end_is}
+use Rattle.trees.proofs.Sets.{sound_kids, sounds_first, sounds_rest}
+
+-- The parents behind cell i, up to cell n.
+abbrev pub behind : List ℕ → ℕ → ℕ → List ℕ
+behind ps n i = take (n - (i + 1)) (drop (i + 1) ps)
+
+inner : (ps : List ℕ) (n i x : ℕ) → i + 1 + x < n → get_or (behind ps n i) x 0 ≡ get_or ps (i + 1 + x) 0
+inner ps n i x l = get_or-take (n - (i + 1)) (drop (i + 1) ps) x 0 (omega arith) ∙ get_or-drop (i + 1) ps x 0
+
+many : (ps : List ℕ) (n i : ℕ) → n ≤ length ps → length (behind ps n i) ≡ n - (i + 1)
+many ps n i l = simp (length-take, length-drop) (omega arith)
+
+-- Inside a part no parent comes before its root.
+within : (ps : List ℕ) (n i k : ℕ) → i + 1 + k ≤ n → ((x : ℕ) → x < k → i ≤ get_or (behind ps n i) x 0) → (x : ℕ) → i < x → x < i + 1 + k → i ≤ get_or ps x 0
+within ps n i k l f x h b =
+    let e : i + 1 + (x - (i + 1)) ≡ x = omega arith in
+    let a = f (x - (i + 1)) (omega arith) in
+    let d = inner ps n i (x - (i + 1)) (omega arith) ∙ ap (λ (y : ℕ). get_or ps y 0) e in
+    omega arith
+
+-- The first parent that comes before the root stands behind the part; without one the part ends with the cells.
+pub end_some : {v : View} {n i k : ℕ} → Long v n → (k < length (behind v.parents.now n i)) × (get_or (behind v.parents.now n i) k 0 < i) × ((x : ℕ) → x < k → i ≤ get_or (behind v.parents.now n i) x 0) →
+    (t : Tree) → Part (seen v) n i t → i + 1 + k ≡ i + nodes t
+end_some {v} {n} {i} {k} long f t p =
+    let m = many v.parents.now n i long.parents_long in
+    let d = inner v.parents.now n i k (omega (arith, f.0)) in
+    end_is (seen v) n i (i + 1 + k) t p (omega arith) (omega (arith, f.0)) (within v.parents.now n i k (omega (arith, f.0)) f.2) (inr (omega (arith, f.0), omega (arith, f.1)))
+
+pub end_none : {v : View} {n i : ℕ} → Long v n → i < n → ((x : ℕ) → x < length (behind v.parents.now n i) → i ≤ get_or (behind v.parents.now n i) x 0) →
+    (t : Tree) → Part (seen v) n i t → n ≡ i + nodes t
+end_none {v} {n} {i} long l f t p =
+    let m = many v.parents.now n i long.parents_long in
+    let e : i + 1 + (n - (i + 1)) ≡ n = omega arith in
+    end_is (seen v) n i n t p l (omega arith) (λ x h b. within v.parents.now n i (n - (i + 1)) (omega arith) (λ y c. f y (omega arith)) x h (omega arith)) (inl refl)
+
+-- ---- from root to root
+
+-- Where trees stand one after the other, the first of them stands in the first cell, and the others behind it.
+pub row_first : {v : View} {n i e : ℕ} → Row v n i e → i < e → Stands v n i
+row_first {v} {n} {i} {e} r l = go r.trees r.parts r.sounds r.end
+  where
+    go : (ts : Trees) → Parts (seen v) n (roots i ts) ts → Sounds ts → e ≡ i + all_nodes ts → Stands v n i
+    go none p s d = absurd (omega arith)
+    go (more t ts) p s d = record { long = r.long; few = r.few; below = (let w = r.ended in omega arith); tree = t; part = p.0; sound = sounds_first t ts s }
+
+pub row_rest : {v : View} {n i e : ℕ} → Row v n i e → i < e → (b : ℕ) → ((t : Tree) → Part (seen v) n i t → b ≡ i + nodes t) → Row v n b e
+row_rest {v} {n} {i} {e} r l b f = go r.trees r.parts r.sounds r.end
+  where
+    go : (ts : Trees) → Parts (seen v) n (roots i ts) ts → Sounds ts → e ≡ i + all_nodes ts → Row v n b e
+    go none p s d = absurd (omega arith)
+    go (more t ts) p s d = let at = f t p.0 in record {
+      long = r.long;
+      few = r.few;
+      within = omega arith;
+      ended = r.ended;
+      trees = ts;
+      parts = subst (λ (x : ℕ). Parts (seen v) n (roots x ts) ts) (sym at) p.1;
+      sounds = sounds_rest t ts s;
+      end = omega arith;
+    }
+
+-- The branches of a part stand so behind its root.
+pub kids_row : {v : View} {n i : ℕ} → Stands v n i → (e : ℕ) → ((t : Tree) → Part (seen v) n i t → e ≡ i + nodes t) → Row v n (i + 1) e
+kids_row {v} {n} {i} s e f =
+    let at = f s.tree s.part in let m = kids_nodes s.tree in let w = s.part.1 in record {
+      long = s.long;
+      few = s.few;
+      within = omega (arith, some_nodes s.tree);
+      ended = omega arith;
+      trees = kids s.tree;
+      parts = subst (λ (x : ℕ). Parts (seen v) n (roots x (kids s.tree)) (kids s.tree)) (sym (add-one i)) (kids_parts (seen v) n i s.tree s.part);
+      sounds = sound_kids s.tree s.sound;
+      end = omega arith;
+    }

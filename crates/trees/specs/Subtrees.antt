@@ -1,0 +1,43 @@
+-- Parts of a tree in lent rows, and walks over their branches.
+use Rattle.std.specs.Prelude.{◌≡◌, ℕ, ◌+◌, ◌<◌, ◌≤◌, Option, Some, None}
+use Rattle.finds.specs.Trees.{Tree}
+use Rattle.trees.specs.Cells.{nodes, Part}
+use Rattle.trees.specs.Rows.{seen}
+use Rattle.trees.specs.declared.subtree.Branches.{Branches}
+use Rattle.trees.specs.declared.subtree.Subtree.{Subtree}
+
+-- The part is this tree.
+abbrev pub Is : Subtree → Tree → Type 0
+Is s t = Part (seen s.rows) s.count s.root t
+
+-- The set of its graves.
+abbrev pub set_at : Subtree → ℕ
+set_at s = (seen s.rows).set s.root
+
+-- The second part lies in the same cells as the first.
+pub record Within (s b : Subtree) : Type 0 where
+  pub rows : b.rows ≡ s.rows
+  pub count : b.count ≡ s.count
+
+-- A walk over all branches of the part.
+pub record Begins (s : Subtree) (b : Branches) : Type 0 where
+  pub rows : b.rows ≡ s.rows
+  pub count : b.count ≡ s.count
+  pub at : b.at ≡ s.root + 1
+  pub end : (t : Tree) → Is s t → b.end ≡ s.root + nodes t
+
+-- A walk goes on by one branch: the next cell is its root, and the walk is then behind it.
+pub record Steps (b : Branches) (s : Subtree) (b' : Branches) : Type 0 where
+  pub some : b.at < b.end
+  pub rows : s.rows ≡ b.rows
+  pub count : s.count ≡ b.count
+  pub root : s.root ≡ b.at
+  pub rows_after : b'.rows ≡ b.rows
+  pub count_after : b'.count ≡ b.count
+  pub at_after : (t : Tree) → Is s t → b'.at ≡ s.root + nodes t
+  pub end_after : b'.end ≡ b.end
+
+-- What a walk yields: a branch, or nothing at the end.
+abbrev pub Yields : Branches → Option Subtree → Branches → Type 0
+Yields b None b' = (b.end ≤ b.at) × (b' ≡ b)
+Yields b (Some s) b' = Steps b s b'
