@@ -1,5 +1,5 @@
 -- What is promised of a change in lent rows, from what the draft holds.
-use Rattle.std.proofs.Common.{◌≡◌, ℕ, zero, suc, ◌-◌, ◌*◌, ◌<◌, ◌≤◌, Bool, true, length, Some, None, refl, arith}
+use Rattle.std.proofs.Common.{◌≡◌, ℕ, zero, suc, ◌-◌, ◌*◌, ◌<◌, ◌≤◌, Bool, true, length, Some, None, Option, refl, arith}
 use Rattle.finds.specs.Finds.{Finds}
 use Rattle.finds.specs.Trees.{Tree, none, more}
 use Rattle.finds.specs.Counts.{count_t}
@@ -14,14 +14,13 @@ use Rattle.trees.specs.Starting.{SameFrom}
 use Rattle.trees.specs.declared.rows.View.{View}
 use Rattle.trees.proofs.Cells.{some_nodes, few_nodes, holds_part}
 use Rattle.trees.proofs.Sets.{few_cells}
-use Rattle.changes.specs.declared.changed.Changed.{Changed}
-use Rattle.changes.specs.declared.changed.Changed.TheVariants.{Made, NoOrder}
 use Rattle.changes.specs.Draft.{Kept}
 use Rattle.changes.specs.Splice.{having, Drawn}
 use Rattle.changes.specs.Whole.{Holding, number_of, cells_of, Stepped, Right, GoesOn, Changes}
 use Rattle.changes.proofs.Same.{holds_same}
 use Rattle.changes.proofs.Splicing.{having_body}
-use Rattle.changes.proofs.Redrawing.{has_mask, step_many, step_sound}
+use Rattle.changes.proofs.Redrawing.{step_many, step_sound}
+use Rattle.changes.proofs.Telling.{mask_has}
 use Rattle.changes.proofs.Writing.{ats_kept}
 
 same_rows : (R : Lent) (c : ℕ) → SameFrom c R R
@@ -38,11 +37,11 @@ few_step k t = go (count_t k true t)
     go (suc (suc n)) h = absurd (omega arith)
 
 -- A step that is right for the finds makes the answer right that is the step's.
-right : (f : Finds) (S : Lent) (r : Changed) (o : Outcome) → ((u : Tree) → o ≡ made u → Sound u) → StandsFor f o → Stepped S r o → Right f S r
-right f S (Made c) torn sound a b = absurd b
-right f S (Made c) (made u) sound a b = (u, b, sound u refl, a.1, a.2)
-right f S NoOrder torn sound a b = a
-right f S NoOrder (made u) sound a b = absurd b
+right : (f : Finds) (S : Lent) (r : Option ℕ) (o : Outcome) → ((u : Tree) → o ≡ made u → Sound u) → StandsFor f o → Stepped S r o → Right f S r
+right f S (Some c) torn sound a b = absurd b
+right f S (Some c) (made u) sound a b = (u, b, sound u refl, a.1, a.2)
+right f S None torn sound a b = a
+right f S None (made u) sound a b = absurd b
 
 -- ---- the tree in the rows
 
@@ -64,11 +63,11 @@ module _ {R : Lent} {count : ℕ} (h : Holding R count) (kind : ℕ) where
   first_set = omega (arith, few_nodes h.tree h.sound.good, some_nodes h.tree, h.room)
 
   all_is : having (held R) kind 0 ≡ count_t (has kind) true h.tree
-  all_is = having_body (has kind) kind (has_mask kind) (held R) 0 h.tree h.holds.body h.sound
+  all_is = having_body (has kind) kind (mask_has kind) (held R) 0 h.tree h.holds.body h.sound
 
-  goes_on : (S : Lent) (r : Changed) (o : Outcome) → shortest S ≡ shortest R → step (has kind) h.tree ≡ o → Stepped S r o → GoesOn S r
-  goes_on S (Made c) torn l e b = absurd b
-  goes_on S (Made c) (made u) l e b =
+  goes_on : (S : Lent) (r : Option ℕ) (o : Outcome) → shortest S ≡ shortest R → step (has kind) h.tree ≡ o → Stepped S r o → GoesOn S r
+  goes_on S (Some c) torn l e b = absurd b
+  goes_on S (Some c) (made u) l e b =
       let z = step_size (has kind) h.tree u h.sound.good e in
       record {
         tree = u;
@@ -76,11 +75,11 @@ module _ {R : Lent} {count : ℕ} (h : Holding R count) (kind : ℕ) where
         sound = step_sound (has kind) h.tree u h.sound e;
         room = omega (arith, h.room);
       }
-  goes_on S NoOrder torn l e b = tt
-  goes_on S NoOrder (made u) l e b = absurd b
+  goes_on S None torn l e b = tt
+  goes_on S None (made u) l e b = absurd b
 
   -- The rows hold one tree, so what is so of that tree is so of each that they hold.
-  changes : (S : Lent) (r : Changed) → shortest S ≡ shortest R → Stepped S r (step (has kind) h.tree) → SameFrom (cells_of r) R S →
+  changes : (S : Lent) (r : Option ℕ) → shortest S ≡ shortest R → Stepped S r (step (has kind) h.tree) → SameFrom (cells_of r) R S →
       (count_t (has kind) true h.tree < 2 → (number_of r ≡ 0) × (cells_of r ≡ count) × SameFrom 0 R S) → Changes R S count kind r
   changes S r l s rest few = record {
     exact = λ f t p y e. right _ S r (step (has kind) h.tree) (λ u. step_sound (has kind) h.tree u h.sound) (step_exact f (has kind) h.tree p h.sound.good (rw (is t y) e)) s;
@@ -93,8 +92,8 @@ module _ {R : Lent} {count : ℕ} (h : Holding R count) (kind : ℕ) where
       is : (t : Tree) → Holds (held R) count t → h.tree ≡ t
       is t y = holds_same (held R) count h.tree t h.holds y
 
-  pub few_changes : having (held R) kind 0 < 2 → Changes R R count kind (Made count)
-  few_changes l = changes R (Made count) refl (rw (few_step (has kind) h.tree (omega (arith, all_is))) h.holds) (same_rows R count) (λ c. (refl, refl, same_rows R 0))
+  pub few_changes : having (held R) kind 0 < 2 → Changes R R count kind (Some count)
+  few_changes l = changes R (Some count) refl (rw (few_step (has kind) h.tree (omega (arith, all_is))) h.holds) (same_rows R count) (λ c. (refl, refl, same_rows R 0))
 
   -- ---- the kind lies in two graves or more, and the tree was redrawn
 
@@ -105,10 +104,10 @@ module _ {R : Lent} {count : ℕ} (h : Holding R count) (kind : ℕ) where
     never_few : {A : Type 0} → count_t (has kind) true h.tree < 2 → A
     never_few c = absurd (omega (arith, all_is))
 
-    pub none_changes : (D : Cells) → ((t : Tree) → Holds (held R) count t → Drawn D None (change (has kind) t)) → Changes R R count kind NoOrder
-    none_changes D d = changes R NoOrder refl (rw step_is (go (change (has kind) h.tree) (d h.tree h.holds))) (same_rows R 0) never_few
+    pub none_changes : (D : Cells) → ((t : Tree) → Holds (held R) count t → Drawn D None (change (has kind) t)) → Changes R R count kind None
+    none_changes D d = changes R None refl (rw step_is (go (change (has kind) h.tree) (d h.tree h.holds))) (same_rows R 0) never_few
       where
-        go : (o : Outcome) → Drawn D None o → Stepped R NoOrder o
+        go : (o : Outcome) → Drawn D None o → Stepped R None o
         go torn x = tt
         go (made u) x = absurd x
 
@@ -125,10 +124,10 @@ module _ {R : Lent} {count : ℕ} (h : Holding R count) (kind : ℕ) where
               let m = few_nodes u s.good in
               (omega (arith, x.many, few_cells u s), omega (arith, x.many))
 
-      pub made_changes : (S : Lent) → Kept D (held S) c → SameFrom c R S → shortest S ≡ shortest R → Changes R S count kind (Made c)
-      made_changes S k rest l = changes S (Made c) l (rw step_is (go (change (has kind) h.tree) (d h.tree h.holds))) rest never_few
+      pub made_changes : (S : Lent) → Kept D (held S) c → SameFrom c R S → shortest S ≡ shortest R → Changes R S count kind (Some c)
+      made_changes S k rest l = changes S (Some c) l (rw step_is (go (change (has kind) h.tree) (d h.tree h.holds))) rest never_few
         where
-          go : (o : Outcome) → Drawn D (Some c) o → Stepped S (Made c) o
+          go : (o : Outcome) → Drawn D (Some c) o → Stepped S (Some c) o
           go torn x = absurd x
           go (made u) x =
               let a = ats_kept 0 0 0 (more u none) k (omega (arith, x.many)) (x.top, x.first, x.body, tt) in

@@ -1,7 +1,7 @@
 -- A tree laid open as a program does it: a group, one branch after the other, a group.
 use Rattle.std.proofs.Common.{◌≡◌, ℕ, zero, suc, ◌+◌, ◌*◌, ◌<◌, ◌≤◌, Bool, true, false, not, ◌⊎◌, List, length, get_or, Some, None, Option, refl, ap, ◌∙◌, subst, inl, inr, arith}
 use lib.Count.{ones}
-use Rattle.finds.specs.Trees.{Tree, grave, any, row, Trees, none, more, Mixed, no_more, put, Put, first, after, Good, Goods, len}
+use Rattle.finds.specs.Trees.{Tree, Trees, none, more, Mixed, no_more, put, Put, first, after, Goods, len}
 use Rattle.finds.specs.Sets.{has}
 use Rattle.finds.proofs.Branches.{plus_none}
 use Rattle.finds.proofs.Counts.{mixed_count}
@@ -9,7 +9,7 @@ use Rattle.finds.proofs.Size.{sizes_count}
 use Rattle.pqtree.specs.Status.{status}
 use Rattle.pqtree.specs.Opening.{Opening, stuck, laid, ◌⊞◌, open_up, open_all}
 use Rattle.pqtree.proofs.Opening.{open_all_plus, open_whole}
-use Rattle.trees.specs.Cells.{size, sizes, kids, Cells, Part, Parts, Sound, Sounds}
+use Rattle.trees.specs.Cells.{size, sizes, Cells, Part, Parts, Sound, Sounds}
 use Rattle.trees.specs.Masks.{Mask}
 use Rattle.trees.specs.Rows.{seen}
 use Rattle.trees.specs.declared.rows.View.{View}
@@ -107,17 +107,6 @@ others x none g l = absurd (omega arith)
 others zero (more t ts) g l = let a = goods_len ts g.1 in omega arith
 others (suc x) (more t ts) g l = let a = others x ts g.1 (omega arith) in let b = good_size t g.0 in omega arith
 
--- Each branch of a well-formed tree has fewer graves than the tree.
-pub kids_many : (t : Tree) → Good t → (0 < len (kids t)) → (2 ≤ len (kids t)) × (sizes (kids t) ≡ size t)
-kids_many (grave g) h l = absurd (omega arith)
-kids_many (any ts) h l = (h.0, refl)
-kids_many (row ts) h l = (omega (arith, h.0), refl)
-
-pub kids_fewer : (t : Tree) → sizes (kids t) ≤ size t
-kids_fewer (grave g) = omega arith
-kids_fewer (any ts) = omega arith
-kids_fewer (row ts) = omega arith
-
 -- ---- the parts of a list of cells, laid open one behind the other
 
 -- Those of the first x cells are laid open from the spot `at` on, whatever trees stand there, and next is the spot behind them.
@@ -128,22 +117,35 @@ SoFar v n m cs R at next x = (k : ℕ → Bool) (b : Bool) → Mask k b m → (t
 abbrev pub Found : View → ℕ → ℕ → ℕ → Cells → Spot → Option Spot → Type 0
 Found v n m i R at r = (k : ℕ → Bool) (b : Bool) → Mask k b m → (t : Tree) → Part (seen v) n i t → Sound t → Opened R at r (open_up k b t)
 
+-- What is found of the parts in these cells, one behind the other.
+abbrev pub FoundAll : View → ℕ → ℕ → List ℕ → Cells → Spot → Option Spot → Type 0
+FoundAll v n m cs R at r = (k : ℕ → Bool) (b : Bool) → Mask k b m → (ts : Trees) → Parts (seen v) n cs ts → Sounds ts → Opened R at r (open_all k b ts)
+
 module _ (v : View) (n m : ℕ) (cs : List ℕ) (x : ℕ) where
   pub loop_more : {R S : Cells} {at mid next : Spot} → x < length cs → SoFar v n m cs R at mid x → Kept R S mid.cell → Found v n m (get_or cs x 0) S mid (Some next) → SoFar v n m cs S at next (x + 1)
   loop_more l o h f k b w ts p q =
       let d : x < len ts = omega (arith, parts_len (seen v) n cs ts p) in
       opened_front k b x ts d (o k b w ts p q) h (f k b w (tree_at x ts) (part_at (seen v) n cs ts x p l) (sound_at ts x q d))
 
-  pub loop_end : {R : Cells} {at next : Spot} → length cs ≤ x → SoFar v n m cs R at next x →
-      (k : ℕ → Bool) (b : Bool) → Mask k b m → (ts : Trees) → Parts (seen v) n cs ts → Sounds ts → Opened R at (Some next) (open_all k b ts)
+  pub loop_end : {R : Cells} {at next : Spot} → length cs ≤ x → SoFar v n m cs R at next x → FoundAll v n m cs R at (Some next)
   loop_end {R} {at} {next} l o k b w ts p q =
       subst (λ (z : Trees). Opened R at (Some next) (open_all k b z)) (front_all x ts (omega (arith, parts_len (seen v) n cs ts p))) (o k b w ts p q)
 
-  pub loop_stuck : {R : Cells} {at : Spot} → x < length cs → Found v n m (get_or cs x 0) R at None →
-      (k : ℕ → Bool) (b : Bool) → Mask k b m → (ts : Trees) → Parts (seen v) n cs ts → Sounds ts → open_all k b ts ≡ stuck
+  pub loop_stuck : {R : Cells} {at next : Spot} → x < length cs → Found v n m (get_or cs x 0) R next None → FoundAll v n m cs R at None
   loop_stuck l f k b w ts p q =
       let d : x < len ts = omega (arith, parts_len (seen v) n cs ts p) in
-      one_stuck k b x ts d (opened_stuck (f k b w (tree_at x ts) (part_at (seen v) n cs ts x p l) (sound_at ts x q d)))
+      rw (one_stuck k b x ts d (opened_stuck (f k b w (tree_at x ts) (part_at (seen v) n cs ts x p l) (sound_at ts x q d)))) not_laid
+
+  -- The others have a grave each.
+  pub each_lighter : AllStand v n cs → x < length cs → ones (get_or v.sets.now (get_or cs x 0) 0) + length cs ≤ weight v.sets.now cs + 1
+  each_lighter s l =
+      let ts = s.trees in
+      let e = parts_len (seen v) n cs ts s.parts in
+      let d : x < len ts = omega arith in
+      let f = part_size (seen v) n (get_or cs x 0) (tree_at x ts) (part_at (seen v) n cs ts x s.parts l) (sound_at ts x s.sound d) in
+      let g = parts_weight v n cs ts s.parts s.sound in
+      let h = others x ts s.sound.good d in
+      omega arith
 
   -- There are such trees, and there was room for all of them.
   module _ (s : AllStand v n cs) {R : Cells} {at next : Spot} (o : SoFar v n m cs R at next x) where

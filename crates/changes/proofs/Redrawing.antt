@@ -1,19 +1,16 @@
 -- The whole tree in the draft, from what is done to its smallest part that holds the kind.
-use Rattle.std.proofs.Common.{◌≡◌, ℕ, zero, suc, ◌+◌, ◌-◌, ◌*◌, ◌<◌, ◌≤◌, Bool, true, false, eqb, ◌⊎◌, Some, None, Option, sym, refl, ◌∙◌, subst, inl, inr, arith}
+use Rattle.std.proofs.Common.{◌≡◌, ℕ, zero, suc, ◌+◌, ◌-◌, ◌*◌, ◌<◌, ◌≤◌, Bool, true, eqb, Some, None, Option, sym, refl, ◌∙◌, subst, inl, inr, arith}
 use lib.Count.{ones}
-use Rattle.std.proofs.lemmas.Bool.Decides.{eqb_tells}
 use Rattle.finds.specs.Trees.{Tree, none, more}
-use Rattle.finds.specs.Counts.{hit, count_t}
-use Rattle.finds.specs.Sets.{bit, has}
+use Rattle.finds.specs.Counts.{count_t}
+use Rattle.finds.specs.Sets.{has}
 use Rattle.pqtree.specs.Status.{heavy}
 use Rattle.pqtree.specs.Change.{Outcome, torn, made, if_two, change, step}
 use Rattle.pqtree.proofs.Change.{step_counts}
 use Rattle.pqtree.proofs.Keeps.{GoodMade, step_good}
 use Rattle.trees.specs.Cells.{nodes, kids, Sound, Cells, Body, Ends, Holds, Part}
-use Rattle.trees.specs.Masks.{Mask}
 use Rattle.trees.specs.Rows.{seen, Stands}
 use Rattle.trees.specs.declared.rows.View.{View}
-use Rattle.finds.proofs.Bits.{bit_low}
 use Rattle.trees.proofs.Cells.{body_inner, holds_part}
 use Rattle.trees.proofs.Sets.{few_cells}
 use Rattle.trees.proofs.Standing.{stands_size}
@@ -22,16 +19,10 @@ use Rattle.changes.specs.Splice.{having, Smallest, Shifted, Drawn}
 use Rattle.changes.specs.Template.{template}
 use Rattle.changes.proofs.Same.{part_same}
 use Rattle.changes.proofs.Splicing.{Spliced, links, Follows, FoundIn, found_in, having_body}
+use Rattle.changes.proofs.Telling.{mask_has}
 use Rattle.changes.proofs.Writing.{kept_trans, ats_kept}
 
--- ---- the kind and the step
-
-pub has_mask : (kind : ℕ) → Mask (has kind) true kind
-has_mask kind g l = go (eqb_tells (bit g kind) 1)
-  where
-    go : ((eqb (bit g kind) 1 ≡ true) × (bit g kind ≡ 1)) ⊎ ((eqb (bit g kind) 1 ≡ false) × (bit g kind ≡ 1 → ⊥)) → bit g kind ≡ hit (has kind g) true
-    go (inl (e, s)) = rw e s
-    go (inr (e, n)) = rw e (let z = bit_low g kind in omega arith)
+-- ---- the step
 
 if_two_many : (n : ℕ) (x y : Outcome) → 2 ≤ n → if_two n x y ≡ y
 if_two_many zero x y h = absurd (omega arith)
@@ -82,11 +73,11 @@ module _ {v : View} {n kind r : ℕ} (site : Site v n kind r) where
       go (inr e) = absurd (omega (arith, e.1))
 
   all_is : having (seen v) kind 0 ≡ count_t (has kind) true tree
-  all_is = having_body (has kind) kind (has_mask kind) (seen v) 0 tree site.stands.part.0 site.stands.sound
+  all_is = having_body (has kind) kind (mask_has kind) (seen v) 0 tree site.stands.part.0 site.stands.sound
 
   pub found : FoundIn (has kind) n r (seen v) 0 tree
   found =
-      found_in (has kind) n r (seen v) kind (having (seen v) kind 0) (has_mask kind) site.two site.smallest.holds site.smallest.last tree 0
+      found_in (has kind) n r (seen v) kind (having (seen v) kind 0) (mask_has kind) site.two site.smallest.holds site.smallest.last tree 0
       site.stands.part
       site.stands.sound
       (sym all_is)

@@ -1,6 +1,5 @@
 -- Branches in a row, changed as a program does it: those without the kind, the first one with it, the rest.
 use Rattle.std.proofs.Common.{◌≡◌, ℕ, zero, suc, ◌+◌, ◌-◌, ◌*◌, ◌<◌, ◌≤◌, Bool, true, false, List, length, get_or, take, drop, Some, None, Option, sym, refl, ap, ◌∙◌, add-one, arith}
-use native.Mathlib.Nat.{sub-zero}
 use lib.Count.{ones}
 use Rattle.std.proofs.lemmas.List.{take_rest}
 use Rattle.finds.specs.Trees.{Tree, grave, any, row, Trees, none, more, Good, len}
@@ -15,11 +14,11 @@ use Rattle.trees.proofs.Allowing.{good_size, goods_len}
 use Rattle.trees.proofs.Cells.{parts_len}
 use Rattle.trees.proofs.Sets.{sound_kids}
 use Rattle.trees.proofs.Standing.{part_size, kids_size}
-use Rattle.changes.specs.declared.choose.Bunch.{Bunch}
+use Rattle.arrayvec.specs.ArrayVec.{ArrayVec}
 use Rattle.changes.specs.declared.choose.Share.{Share}
 use Rattle.changes.specs.declared.choose.Share.TheVariants.{Empty, Partial, Full}
 use Rattle.changes.specs.declared.draft.Spot.{Spot}
-use Rattle.changes.specs.Bunches.{listed, AllStand, weight}
+use Rattle.changes.specs.Bunches.{AllStand, weight}
 use Rattle.changes.specs.Draft.{Kept}
 use Rattle.changes.specs.Layouts.{Bunched}
 use Rattle.changes.specs.Shares.{share, EmptyFirst}
@@ -79,9 +78,9 @@ told_bare Partial e = absurd (let z : ◌≡◌ {A = ℕ} 0 1 = cc in omega arit
 told_bare Full e = absurd (let z : ◌≡◌ {A = ℕ} 0 1 = cc in omega arith)
 
 -- The branches of the part in cell i have their roots in the cells cs, of which the first x have nothing of the kind.
-module _ (v : View) (n i m : ℕ) (u : Bunch) (cs : List ℕ) (f : cs ≡ listed u) (g : (t : Tree) → Part (seen v) n i t → Bunched v n u (kids t)) (x : ℕ) (e : EmptyFirst v.sets.now m cs x) where
+module _ (v : View) (n i m : ℕ) (u : ArrayVec ℕ) (cs : List ℕ) (f : cs ≡ u.items) (g : (t : Tree) → Part (seen v) n i t → Bunched v n u (kids t)) (x : ℕ) (e : EmptyFirst v.sets.now m cs x) where
   parts : (t : Tree) → Part (seen v) n i t → Parts (seen v) n cs (kids t)
-  parts t p = rw f (g t p).parts
+  parts t p = rw f (g t p)
 
   many : (t : Tree) → Part (seen v) n i t → length cs ≡ len (kids t)
   many t p = parts_len (seen v) n cs (kids t) (parts t p)
@@ -99,13 +98,13 @@ module _ (v : View) (n i m : ℕ) (u : Bunch) (cs : List ℕ) (f : cs ≡ listed
   is_torn l t p q = cut_none (has m) (kids t) (λ y h. bares t p q y (omega (arith, many t p)))
 
   abbrev pub before : List ℕ
-  before = take (x - 0) cs
+  before = take x cs
 
   abbrev pub behind : List ℕ
   behind = take (length cs - (x + 1)) (drop (x + 1) cs)
 
   before_parts : (t : Tree) → Part (seen v) n i t → Parts (seen v) n before (front x (kids t))
-  before_parts t p = rw (sub-zero x) (parts_front (seen v) n cs (kids t) x (parts t p))
+  before_parts t p = parts_front (seen v) n cs (kids t) x (parts t p)
 
   behind_parts : (t : Tree) → Part (seen v) n i t → Parts (seen v) n behind (back (x + 1) (kids t))
   behind_parts t p = rw (take_rest cs (x + 1)) (parts_back (seen v) n cs (kids t) (x + 1) (parts t p))

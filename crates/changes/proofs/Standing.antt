@@ -1,8 +1,8 @@
 -- Lists of cells at which sound trees stand: what they weigh, and each of them.
-use Rattle.std.proofs.Common.{◌≡◌, ℕ, ◌+◌, ◌*◌, ◌<◌, ◌≤◌, List, [], ◌∷◌, length, get_or, refl, arith}
+use Rattle.std.proofs.Common.{◌≡◌, ℕ, zero, suc, ◌+◌, ◌*◌, ◌<◌, ◌≤◌, List, [], ◌∷◌, length, get_or, take, refl, arith}
 use lib.Count.{ones}
-use Rattle.std.specs.List.{AllByRecursion}
-use Rattle.std.proofs.ByRecursion.{All-weaker}
+use Rattle.arrayvec.specs.ArrayVec.{ArrayVec}
+use Rattle.std.specs.List.{All}
 use Rattle.finds.specs.Trees.{Tree, any, Trees, none, more, len, Goods}
 use Rattle.pqtree.specs.Opening.{group}
 use Rattle.trees.specs.Cells.{sizes, sets_of, kids, Cells, Part, Parts, Sounds}
@@ -13,9 +13,8 @@ use Rattle.trees.proofs.Allowing.{goods_len}
 use Rattle.trees.proofs.Standing.{part_size}
 use Rattle.trees.proofs.Sets.{sound_kids, sounds_first, sounds_rest, few_branches}
 use Rattle.trees.specs.Walks.{Listed}
-use Rattle.changes.specs.declared.choose.Bunch.{Bunch}
 use Rattle.changes.specs.declared.draft.Spot.{Spot}
-use Rattle.changes.specs.Bunches.{listed, AllStand, weight}
+use Rattle.changes.specs.Bunches.{AllStand, weight}
 use Rattle.changes.specs.Layouts.{Bunched}
 use Rattle.changes.specs.Shares.{union_of}
 use Rattle.changes.specs.Written.{Room, Wrote}
@@ -43,13 +42,14 @@ parts_union v n (c ∷ cs) none p = absurd p
 parts_union v n (c ∷ cs) (more t ts) p = rw (body_set (seen v) c t p.0.0, parts_union v n cs ts p.1)
 
 -- Each cell is one of the first n.
-parts_below : (R : Cells) (n : ℕ) (cs : List ℕ) (ts : Trees) → Parts R n cs ts → AllByRecursion (λ c. c < n) cs
-parts_below R n [] ts p = tt
-parts_below R n (c ∷ cs) none p = absurd p
-parts_below R n (c ∷ cs) (more t ts) p = (omega (arith, p.0.1, some_nodes t), parts_below R n cs ts p.1)
+parts_below : (R : Cells) (n : ℕ) (cs : List ℕ) (ts : Trees) → Parts R n cs ts → All (λ c. c < n) cs
+parts_below R n [] ts p k d l = absurd (omega arith)
+parts_below R n (c ∷ cs) none p k d l = absurd p
+parts_below R n (c ∷ cs) (more t ts) p zero d l = omega (arith, p.0.1, some_nodes t)
+parts_below R n (c ∷ cs) (more t ts) p (suc k) d l = parts_below R n cs ts p.1 k d (omega arith)
 
-pub stand_below : (v : View) (n : ℕ) (cs : List ℕ) → AllStand v n cs → AllByRecursion (λ c. c < length v.sets.now) cs
-stand_below v n cs s = All-weaker (λ c. c < n) (λ c. c < length v.sets.now) (λ c l. omega (arith, s.long.sets_long)) cs (parts_below (seen v) n cs s.trees s.parts)
+pub stand_below : (v : View) (n : ℕ) (cs : List ℕ) → AllStand v n cs → All (λ c. c < length v.sets.now) cs
+stand_below v n cs s k d l = omega (arith, parts_below (seen v) n cs s.trees s.parts k d l, s.long.sets_long)
 
 pub stand_few : (v : View) (n : ℕ) (cs : List ℕ) → AllStand v n cs → length cs ≤ 64
 stand_few v n cs s = omega (arith, parts_len (seen v) n cs s.trees s.parts, few_branches s.trees s.sound)
@@ -84,21 +84,12 @@ room_at v n cs x s l w r =
 
 -- ---- the branches of a cell, listed in a bunch
 
-module _ (v : View) (n i : ℕ) (s : Stands v n i) (u : Bunch) (h : (t : Tree) → Part (seen v) n i t → Listed i u.many u.cells (kids t)) where
+module _ (v : View) (n i : ℕ) (s : Stands v n i) (m : ℕ) (xs : List ℕ) (u : ArrayVec ℕ) (h : (t : Tree) → Part (seen v) n i t → Listed i m xs (kids t)) (e : u.items ≡ take m xs) where
   pub branches_bunched : (t : Tree) → Part (seen v) n i t → Bunched v n u (kids t)
-  branches_bunched t p = record {
-    few = omega (arith, (h s.tree s.part).all, few_branches (kids s.tree) (sound_kids s.tree s.sound));
-    parts = rw (h t p).front (kids_parts (seen v) n i t p);
-  }
+  branches_bunched t p = rw (e, (h t p).front) (kids_parts (seen v) n i t p)
 
-  pub branches_stand : AllStand v n (listed u)
-  branches_stand = record {
-    long = s.long;
-    few = s.few;
-    trees = kids s.tree;
-    parts = (branches_bunched s.tree s.part).parts;
-    sound = sound_kids s.tree s.sound;
-  }
+  pub branches_stand : AllStand v n u.items
+  branches_stand = record { long = s.long; few = s.few; trees = kids s.tree; parts = branches_bunched s.tree s.part; sound = sound_kids s.tree s.sound }
 
 -- ---- groups
 

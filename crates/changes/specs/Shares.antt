@@ -1,5 +1,7 @@
 -- What is read from the sets of cells: how much of a mask they have, and their union.
-use Rattle.std.specs.Prelude.{◌≡◌, ℕ, ◌<◌, ◌≤◌, Bool, true, false, cond, List, [], ◌∷◌, length, ◌==◌, ◌≢◌, bit_and, bit_or, count_ones, slice_index}
+use Rattle.std.specs.Prelude.{◌≡◌, ℕ, ◌<◌, ◌≤◌, Bool, true, false, cond, List, [], ◌∷◌, length, ◌==◌, ◌≢◌, Some, None, Option, bit_and, bit_or, count_ones, slice_index}
+use denote.Enum.Bare.{sameb}
+use Rattle.changes.specs.contracts.choose.Share.{the_type}
 use Rattle.changes.specs.declared.choose.Share.{Share}
 use Rattle.changes.specs.declared.choose.Share.TheVariants.{Empty, Partial, Full}
 
@@ -7,17 +9,9 @@ use Rattle.changes.specs.declared.choose.Share.TheVariants.{Empty, Partial, Full
 abbrev pub share : ℕ → ℕ → Share
 share s m = cond (count_ones (bit_and s m) == 0) Empty (cond (count_ones (bit_and s m) == count_ones s) Full Partial)
 
--- Whether two shares are the same.
+-- Whether two shares are the same: what the derived `==` tells.
 abbrev pub alike : Share → Share → Bool
-alike Empty Empty = true
-alike Empty Partial = false
-alike Empty Full = false
-alike Partial Empty = false
-alike Partial Partial = true
-alike Partial Full = false
-alike Full Empty = false
-alike Full Partial = false
-alike Full Full = true
+alike = sameb the_type
 
 -- Whether the cell c has this share of the mask m, in the row ms of sets.
 abbrev pub has_share : List ℕ → ℕ → Share → ℕ → Bool
@@ -28,6 +22,11 @@ pub record EmptyFirst (ms : List ℕ) (m : ℕ) (cs : List ℕ) (r : ℕ) : Type
   pub within : r ≤ length cs
   pub before : (x : ℕ) → x < r → share (slice_index ms (slice_index cs x)) m ≡ Empty
   pub next : r < length cs → share (slice_index ms (slice_index cs r)) m ≢ Empty
+
+-- Which cell is the first that has something of the mask m; None if none has.
+abbrev pub FirstWith : List ℕ → ℕ → List ℕ → Option ℕ → Type 0
+FirstWith ms m cs None = EmptyFirst ms m cs (length cs)
+FirstWith ms m cs (Some r) = (r < length cs) × EmptyFirst ms m cs r
 
 -- How a sequence goes on with the next share: behind one that was not empty, only full ones may come.
 abbrev pub goes_on : Share → Bool → (Bool → Bool) → Bool

@@ -1,11 +1,19 @@
 -- A tree in its cells with one part of it changed: which part that is, and what becomes of the cells before and behind it.
-use Rattle.std.specs.Prelude.{◌≡◌, ℕ, ◌+◌, ◌<◌, ◌≤◌, Some, None, Option, ◌≢◌, bit_and, count_ones}
+use Rattle.std.specs.Prelude.{◌≡◌, ℕ, ◌+◌, ◌<◌, ◌≤◌, List, length, Some, None, Option, ◌≢◌, bit_and, count_ones, slice_index}
 use Rattle.pqtree.specs.Change.{Outcome, torn, made}
 use Rattle.trees.specs.Cells.{Cells, Holds}
 
 -- How many graves of the kind cell x has below it.
 abbrev pub having : Cells → ℕ → ℕ → ℕ
 having R kind x = count_ones (bit_and (R.set x) kind)
+
+-- Which of the sets ms is the last that has so many graves of the kind; None if none has.
+abbrev pub LastWith : List ℕ → ℕ → ℕ → Option ℕ → Type 0
+LastWith ms kind many None = (x : ℕ) → x < length ms → count_ones (bit_and (slice_index ms x) kind) ≢ many
+LastWith ms kind many (Some r) =
+    (r < length ms)
+    × (count_ones (bit_and (slice_index ms r) kind) ≡ many)
+    × ((x : ℕ) → r < x → x < length ms → count_ones (bit_and (slice_index ms x) kind) ≢ many)
 
 -- Of n cells the cell r is the last that has all graves of the kind that the tree has: the root of the smallest part that holds them all.
 pub record Smallest (R : Cells) (n kind r : ℕ) : Type 0 where

@@ -1,7 +1,6 @@
 // Changing a tree in lent rows for one kind more.
 #![tactic(auto)]
 
-pub mod changed;
 pub mod choose;
 pub mod draft;
 pub mod opening;

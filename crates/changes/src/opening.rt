@@ -1,12 +1,12 @@
 // Laying a partial tree open into a row of branches.
 ghost use Rattle.std.specs.Prelude.{◌≡◌, ℕ, ◌+◌, ◌*◌, ◌<◌, ◌≤◌, Bool, length, count_ones, slice_index};
-ghost use Rattle.std.specs.List.{AllByRecursion};
-ghost use Rattle.changes.specs.Bunches.{listed, AllStand, weight};
+ghost use Rattle.std.specs.List.{All};
+ghost use Rattle.changes.specs.Bunches.{AllStand, weight};
 ghost use Rattle.changes.specs.Layouts.{Apart, Bunched, InSequence, LayoutOf};
 ghost use Rattle.changes.specs.Draft.{drafted, Kept};
 ghost use Rattle.changes.specs.Written.{Opened, Room};
 ghost use Rattle.finds.specs.Trees.{Tree, Trees};
-ghost use Rattle.pqtree.specs.Opening.{open_up, open_row};
+ghost use Rattle.pqtree.specs.Opening.{open_all, open_row, open_up};
 ghost use Rattle.pqtree.specs.Status.{part, status};
 ghost use Rattle.trees.specs.Cells.{kids, Part, Parts, Sound, Sounds};
 ghost use Rattle.trees.specs.Masks.{Mask};
@@ -18,7 +18,7 @@ use trees::rows::{Sort, View};
 use trees::walk::branches;
 
 // The branches of a partial tree in the order in which it is laid open: the first as one branch, those in the middle each laid open, the last as one branch.
-#[derive(Clone, Copy)]
+#[derive(Drop)]
 pub struct Layout {
     pub first: Bunch,
     pub middle: Bunch,
@@ -28,17 +28,18 @@ pub struct Layout {
 // The branches of cell i, in their order.
 pub(crate) fn branches_of(view: View, count: usize, i: usize) -> Bunch
     requires { Stands view count i }
-    ensures stand { AllStand view.entry count (listed result) }
+    ensures stand { AllStand view.entry count result.items }
     ensures branches { (t : Tree) → Part (seen view.entry) count i t → Bunched view.entry count result (kids t) }
 {
-    let mut cells = [0; 64];
-    let many = branches(view, count, i, &mut cells);
-    Bunch { cells, many }
+    let mut cells = Bunch::from([0; 64]);
+    let many = branches(view, count, i, cells.as_mut_slice());
+    cells.truncate(many);
+    cells
 }
 
 // The cells apart by their share of the mask: those with nothing of it first, those with a part of it in the middle, those with nothing else last.
 pub(crate) fn set_apart(sets: &[u64], cells: &[u8], mask: u64) -> Layout
-    requires within { AllByRecursion (λ c. c < length sets.now) cells.now }
+    requires within { All (λ c. c < length sets.now) cells.now }
     requires few { length cells.now ≤ 64 }
     ensures { Apart sets.now mask cells.now result }
 {
@@ -50,17 +51,16 @@ pub(crate) fn set_apart(sets: &[u64], cells: &[u8], mask: u64) -> Layout
 }
 
 // The cells in sequence, as they are or turned round.
-pub(crate) fn sequence(sets: &[u64], cells: Bunch, mask: u64) -> Option<Bunch>
-    requires within { AllByRecursion (λ c. c < length sets.now) (listed cells) }
-    requires few { cells.many ≤ 64 }
-    ensures { InSequence sets.now mask (listed cells) result }
+pub(crate) fn sequence(sets: &[u64], mut cells: Bunch, mask: u64) -> Option<Bunch>
+    requires { All (λ c. c < length sets.now) cells.items }
+    ensures { InSequence sets.now mask cells.items result }
 {
-    if in_sequence(sets, cells.list(), mask) {
+    if in_sequence(sets, cells.as_slice(), mask) {
         return Some(cells);
     }
-    let back = cells.turned();
-    if in_sequence(sets, back.list(), mask) {
-        return Some(back);
+    cells.reverse();
+    if in_sequence(sets, cells.as_slice(), mask) {
+        return Some(cells);
     }
     None
 }
@@ -72,8 +72,8 @@ pub(crate) fn lay_out(view: View, count: usize, i: usize, mask: u64) -> Option<L
 {
     let cells = branches_of(view, count, i);
     if view.sorts[i] == Sort::Any as u8 {
-        let layout = set_apart(view.sets, cells.list(), mask);
-        if layout.middle.many > 1 {
+        let layout = set_apart(view.sets, cells.as_slice(), mask);
+        if layout.middle.len() > 1 {
             return None;
         }
         return Some(layout);
@@ -81,18 +81,15 @@ pub(crate) fn lay_out(view: View, count: usize, i: usize, mask: u64) -> Option<L
     let Some(middle) = sequence(view.sets, cells, mask) else {
         return None;
     };
-    let none = Bunch {
-        cells: [0; 64],
-        many: 0,
-    };
     Some(Layout {
-        first: none,
+        first: Bunch::new(),
         middle,
-        last: none,
+        last: Bunch::new(),
     })
 }
 
 // Lays the part with its root in cell i open at the spot: what has nothing of the mask first, what has nothing else last. The spot behind it, or None where it cannot be done.
+#[cycle(laying)]
 pub(crate) fn lay_open(
     view: View,
     count: usize,
@@ -113,17 +110,39 @@ pub(crate) fn lay_open(
     let Some(layout) = lay_out(view, count, i, mask) else {
         return None;
     };
-    let mut next = group(view, count, layout.first.list(), draft, at);
-    for cell in layout.middle.list() {
+    let next = group(view, count, layout.first.as_slice(), draft, at);
+    let Some(next) = lay_each(view, count, layout.middle.as_slice(), mask, draft, next) else {
+        return None;
+    };
+    Some(group(view, count, layout.last.as_slice(), draft, next))
+}
+
+// Lays the parts with their roots in these cells open at the spot, one behind the other; the spot behind them, or None where one cannot be laid open.
+#[cycle(laying)]
+fn lay_each(
+    view: View,
+    count: usize,
+    cells: &[u8],
+    mask: u64,
+    draft: &mut Draft,
+    at: Spot,
+) -> Option<Spot>
+    requires stand { AllStand view count cells.now }
+    requires room { Room at (2 * weight view.sets.now cells.now + 1) }
+    ensures kept { Kept (drafted draft.old) (drafted draft.new) at.cell }
+    ensures opened { (k : ℕ → Bool) (b : Bool) → Mask k b mask → (ts : Trees) → Parts (seen view.entry) count cells.now ts → Sounds ts → Opened (drafted draft.new) at result (open_all k b ts) }
+{
+    let mut next = at;
+    for cell in cells {
         let Some(behind) = lay_open(view, count, *cell as usize, mask, draft, next) else {
             return None;
         };
         next = behind;
     }
-    Some(group(view, count, layout.last.list(), draft, next))
+    Some(next)
 }
 
-// Lays the parts with their roots in these cells open at the spot, one behind the other; the spot behind them, or None where they do not come in sequence or one cannot be laid open.
+// The same of cells that have to come in sequence; None too where they do not.
 pub(crate) fn lay_all(
     view: View,
     count: usize,
@@ -140,12 +159,5 @@ pub(crate) fn lay_all(
     if !in_sequence(view.sets, cells, mask) {
         return None;
     }
-    let mut next = at;
-    for cell in cells {
-        let Some(behind) = lay_open(view, count, *cell as usize, mask, draft, next) else {
-            return None;
-        };
-        next = behind;
-    }
-    Some(next)
+    lay_each(view, count, cells, mask, draft, at)
 }

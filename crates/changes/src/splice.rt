@@ -1,7 +1,7 @@
 // The tree with one part of it changed: the part is found, changed, and what stands before and behind it put to it.
 ghost use Rattle.std.specs.Prelude.{◌≡◌, ℕ, ◌+◌, ◌-◌, ◌<◌, ◌≤◌};
 ghost use Rattle.changes.specs.Draft.{drafted, Kept};
-ghost use Rattle.changes.specs.Splice.{having, Smallest, Shifted, Drawn};
+ghost use Rattle.changes.specs.Splice.{having, LastWith, Smallest, Shifted, Drawn};
 ghost use Rattle.finds.specs.Sets.{has};
 ghost use Rattle.finds.specs.Trees.{Tree};
 ghost use Rattle.pqtree.specs.Change.{change};
@@ -13,6 +13,14 @@ use crate::templates::rebuild;
 use trees::rows::View;
 use trees::walk::next_after;
 
+// Which of the sets is the last that has so many graves of the kind.
+fn last_with(sets: &[u64], kind: u64, many: u32) -> Option<usize>
+    ensures { LastWith sets.now kind many result }
+{
+    sets.iter()
+        .rposition(|set| (*set & kind).count_ones() == many)
+}
+
 // The last of count cells that has all graves of the kind that the tree has: the root of the smallest part that holds them all.
 fn smallest(view: View, count: usize, kind: u64) -> usize
     requires long { Long view count }
@@ -20,13 +28,7 @@ fn smallest(view: View, count: usize, kind: u64) -> usize
     ensures { Smallest (seen view.entry) count kind result }
 {
     let all = (view.sets[0] & kind).count_ones();
-    let mut part = 0;
-    for i in 1..count {
-        if (view.sets[i] & kind).count_ones() == all {
-            part = i;
-        }
-    }
-    part
+    last_with(&view.sets[..count], kind, all).unwrap()
 }
 
 // The cells below the cell r as they are.
@@ -77,15 +79,11 @@ pub(crate) fn redraw(view: View, count: usize, kind: u64, draft: &mut Draft) -> 
     let part = smallest(view, count, kind);
     let end = next_after(view, count, part);
     before(view, part, draft);
-    let at = rebuild(
-        view,
-        count,
-        part,
-        kind,
-        draft,
-        part,
-        view.parents[part],
-        view.places[part],
-    )?;
+    let spot = Spot {
+        cell: part,
+        parent: view.parents[part],
+        place: view.places[part],
+    };
+    let at = rebuild(view, count, part, kind, draft, spot)?;
     Some(behind(view, count, end, draft, at))
 }

@@ -10,7 +10,7 @@ ghost use Rattle.pqtree.specs.Status.{part, full, sel, heavy};
 ghost use Rattle.trees.specs.Cells.{kids, Part, Parts, Sound, Sounds};
 ghost use Rattle.trees.specs.Rows.{seen, Stands};
 
-use crate::choose::{empty_first, union};
+use crate::choose::{first_with, union};
 use crate::draft::{Draft, Spot, copies, group, inside, put};
 use crate::opening::{Layout, branches_of, lay_all, lay_open, set_apart};
 use trees::rows::{Sort, View};
@@ -31,13 +31,12 @@ pub(crate) fn row_part(
     ensures rebuilt { (t : Tree) → Part (seen view.entry) count i t → Sound t → Rebuilt (drafted draft.new) at.cell at.parent at.place result (as_row (row_cut (has kind) (kids t))) }
 {
     let branches = branches_of(view, count, i);
-    let cells = branches.list();
-    let x = empty_first(view.sets, cells, kind);
-    if x == cells.len() {
+    let cells = branches.as_slice();
+    let Some(x) = first_with(view.sets, cells, kind) else {
         return None;
-    }
+    };
     put(draft, at, Sort::Row as u8, view.sets[i]);
-    let next = copies(view, count, &cells[0..x], draft, inside(at));
+    let next = copies(view, count, &cells[..x], draft, inside(at));
     let Some(next) = lay_open(view, count, cells[x] as usize, kind, draft, next) else {
         return None;
     };
@@ -106,37 +105,31 @@ pub(crate) fn any_part(
         first,
         middle,
         last,
-    } = set_apart(view.sets, branches.list(), kind);
-    if first.many == 0 {
-        return bind(view, count, middle.list(), last.list(), kind, draft, at);
+    } = set_apart(view.sets, branches.as_slice(), kind);
+    let (partials, fulls) = (middle.as_slice(), last.as_slice());
+    if first.is_empty() {
+        return bind(view, count, partials, fulls, kind, draft, at);
     }
     put(draft, at, Sort::Any as u8, view.sets[i]);
-    let next = copies(view, count, first.list(), draft, inside(at));
-    bind(view, count, middle.list(), last.list(), kind, draft, next)
+    let next = copies(view, count, first.as_slice(), draft, inside(at));
+    bind(view, count, partials, fulls, kind, draft, next)
 }
 
-// Writes the part with its root in cell i, changed for the kind, into the draft from cell o on, as the branch of parent at this place: the cell behind it, or None where no order fits.
+// Writes the part with its root in cell i, changed for the kind, to the spot: the cell behind it, or None where no order fits.
 pub(crate) fn rebuild(
     view: View,
     count: usize,
     i: usize,
     kind: u64,
     draft: &mut Draft,
-    o: usize,
-    parent: u8,
-    place: u8,
+    at: Spot,
 ) -> Option<usize>
     requires stands { Stands view count i }
     requires heavy { (t : Tree) → Part (seen view) count i t → 2 ≤ heavy (has kind) (kids t) }
-    requires room { o + 2 * count_ones (slice_index view.sets.now i) ≤ 255 }
-    ensures kept { Kept (drafted draft.old) (drafted draft.new) o }
-    ensures rebuilt { (t : Tree) → Part (seen view.entry) count i t → Sound t → Rebuilt (drafted draft.new) o parent place result (template (has kind) t) }
+    requires room { at.cell + 2 * count_ones (slice_index view.sets.now i) ≤ 255 }
+    ensures kept { Kept (drafted draft.old) (drafted draft.new) at.cell }
+    ensures rebuilt { (t : Tree) → Part (seen view.entry) count i t → Sound t → Rebuilt (drafted draft.new) at.cell at.parent at.place result (template (has kind) t) }
 {
-    let at = Spot {
-        cell: o,
-        parent,
-        place,
-    };
     if view.sorts[i] == Sort::Any as u8 {
         any_part(view, count, i, kind, draft, at)
     } else {

@@ -5,7 +5,6 @@ ghost use Rattle.changes.specs.Whole.{Holding, Changes};
 ghost use Rattle.trees.specs.Cells.{held, lent, shortest};
 ghost use Rattle.trees.specs.Starting.{SameFrom};
 
-use crate::changed::Changed;
 use crate::draft::Draft;
 use crate::splice::redraw;
 use trees::rows::View;
@@ -38,7 +37,7 @@ fn ties_nothing(graves: u64, kind: u64) -> bool
     (graves & kind).count_ones() < 2
 }
 
-// Changes the tree in the first cells of the rows for one kind more, which is the set of the graves in which it lay: the rows hold the tree of those orders that do not tear the kind, or are as they were where there is none.
+// Changes the tree in the first cells of the rows for one kind more, which is the set of the graves in which it lay: the rows hold the tree of those orders that do not tear the kind, in so many cells; or are as they were where there is none, and the answer is None.
 // A kind that lay in fewer than two graves of the tree changes nothing; graves that the tree does not have make no difference.
 pub fn change(
     parents: &mut [u8],
@@ -47,12 +46,12 @@ pub fn change(
     sets: &mut [u64],
     count: usize,
     kind: u64,
-) -> Changed
+) -> Option<usize>
     requires { Holding (lent parents.old sorts.old places.old sets.old) count }
     ensures { Changes (lent parents.old sorts.old places.old sets.old) (lent parents.new sorts.new places.new sets.new) count kind result }
 {
     if ties_nothing(sets[0], kind) {
-        return Changed::Made { count };
+        return Some(count);
     }
     let mut draft = Draft {
         parents: [0; 256],
@@ -67,8 +66,8 @@ pub fn change(
         sets,
     };
     let Some(count) = redraw(view, count, kind, &mut draft) else {
-        return Changed::NoOrder;
+        return None;
     };
     back(&draft, count, parents, sorts, places, sets);
-    Changed::Made { count }
+    Some(count)
 }

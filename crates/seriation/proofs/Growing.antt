@@ -1,5 +1,5 @@
 -- A tree that grows in lent rows: one kind more, and what stands in the rows at the end.
-use Rattle.std.proofs.Common.{◌≡◌, ℕ, suc, ◌+◌, ◌-◌, ◌<◌, ◌≤◌, Bool, false, List, map, length, get_or, drop, sym, refl, ap, ◌∙◌, subst, inl, arith}
+use Rattle.std.proofs.Common.{◌≡◌, ℕ, suc, ◌+◌, ◌-◌, ◌<◌, ◌≤◌, Bool, false, List, map, length, get_or, drop, sym, refl, ap, ◌∙◌, subst, inl, Some, None, arith}
 use Rattle.std.proofs.lemmas.List.{drop-drop, get_or-map, length-map}
 use Rattle.finds.specs.Sets.{has}
 use Rattle.finds.specs.Trees.{Tree}
@@ -12,7 +12,6 @@ use Rattle.tables.specs.Room.{branches_for}
 use Rattle.trees.specs.Cells.{Lent, held, shortest, Holds}
 use Rattle.trees.specs.Starting.{SameFrom}
 use Rattle.changes.specs.Whole.{Holding, Stepped, Changes}
-use Rattle.changes.specs.declared.changed.Changed.TheVariants.{Made, NoOrder}
 use Rattle.changes.proofs.Redrawing.{step_sound}
 use Rattle.seriation.specs.Building.{Grown, Staged}
 
@@ -35,11 +34,11 @@ same_then c d {R} {S} {T} h a b =
 -- ---- one kind more
 
 -- The answers of a change, by the outcome of the step.
-made_is : (S : Lent) (c : ℕ) (x : Outcome) → Stepped S (Made c) x → (u : Tree) × (x ≡ made u) × Holds (held S) c u
+made_is : (S : Lent) (c : ℕ) (x : Outcome) → Stepped S (Some c) x → (u : Tree) × (x ≡ made u) × Holds (held S) c u
 made_is S c torn h = absurd h
 made_is S c (made u) h = (u, refl, h)
 
-none_is : (S : Lent) (x : Outcome) → Stepped S NoOrder x → x ≡ torn
+none_is : (S : Lent) (x : Outcome) → Stepped S None x → x ≡ torn
 none_is S torn h = refl
 none_is S (made u) h = absurd h
 
@@ -52,7 +51,7 @@ module _ (n : ℕ) (ss : List ℕ) (i count : ℕ) (R S : Lent) (g : Grown (find
   next : i < length ss → after (finds_of_sets n ss) (suc i) ≡ step (has (get_or ss i 0)) g.tree
   next h = ap (then_kind (get_or (map has ss) i (λ _. false))) g.grown ∙ ap (λ (k : ℕ → Bool). step k g.tree) (get_or-map has ss i 0 (λ _. false) h)
 
-  pub grown_more : (c : ℕ) (T : Lent) → i < length ss → Changes S T count (get_or ss i 0) (Made c) → Grown (finds_of_sets n ss) (i + 1) c R T
+  pub grown_more : (c : ℕ) (T : Lent) → i < length ss → Changes S T count (get_or ss i 0) (Some c) → Grown (finds_of_sets n ss) (i + 1) c R T
   grown_more c T h w =
       let k = has (get_or ss i 0) in let m = made_is T c (step k g.tree) (w.stepped g.tree g.holds) in
       let s = step_sound k g.tree m.0 g.sound m.1 in let z = step_size k g.tree m.0 g.sound.good m.1 in
@@ -67,7 +66,7 @@ module _ (n : ℕ) (ss : List ℕ) (i count : ℕ) (R S : Lent) (g : Grown (find
       }
 
   -- Where no order fits with the next kind, the rows are as they were.
-  pub grown_torn : (T : Lent) → i < length ss → Changes S T count (get_or ss i 0) NoOrder → Grown (finds_of_sets n ss) i count R T × (after (finds_of_sets n ss) (suc i) ≡ torn)
+  pub grown_torn : (T : Lent) → i < length ss → Changes S T count (get_or ss i 0) None → Grown (finds_of_sets n ss) i count R T × (after (finds_of_sets n ss) (suc i) ≡ torn)
   grown_torn T h w = (
     subst (Grown (finds_of_sets n ss) i count R) same g,
     next h ∙ none_is T (step (has (get_or ss i 0)) g.tree) (w.stepped g.tree g.holds),

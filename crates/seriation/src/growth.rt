@@ -6,7 +6,6 @@ ghost use Rattle.tables.specs.Room.{branches_for};
 ghost use Rattle.trees.specs.Cells.{lent, shortest};
 
 use crate::built::{Built, Stage};
-use changes::changed::Changed;
 use changes::whole::change;
 use trees::first::start;
 
@@ -27,8 +26,8 @@ fn grow_all(
     let mut count = cells;
     for i in 0..kinds.len() {
         match change(parents, sorts, places, sets, count, kinds[i]) {
-            Changed::Made { count: more } => count = more,
-            Changed::NoOrder => return Stage { kinds: i, count },
+            Some(more) => count = more,
+            None => return Stage { kinds: i, count },
         }
     }
     Stage {

@@ -4,6 +4,5 @@ use Rattle.changes.proofs.choose.pick.Given as goal
 
 abbrev pub invariant-loop-cell : goal.invariant-loop-cell
 invariant-loop-cell l =
-    (length l.picked ≡ 64)
-    × (l.many ≤ l.cell-index)
-    × (take l.many l.picked ≡ filter (has_share l.sets l.mask l.want) (take l.cell-index l.cells))
+    (length l.picked.items ≤ l.cell-index)
+    × (l.picked.items ≡ filter (has_share l.sets l.mask l.want) (take l.cell-index l.cells))

@@ -1,13 +1,8 @@
-use Rattle.std.proofs.Common.{◌∙◌}
-use Rattle.std.proofs.ByRecursion.{All-get_or}
-use Rattle.changes.proofs.Choosing.{union_more, union_end}
+use Rattle.std.proofs.Common.{◌≡◌, get_or, ◌∙◌, rules}
+use lib.Bits.{bit_or}
+use Rattle.std.specs.List.{fold}
+use Rattle.changes.proofs.Choosing.{fold_union}
 use Rattle.changes.proofs.choose.union.Goals as goal
 
-pub bounds-sets-cell : goal.bounds-sets-cell
-bounds-sets-cell c = All-get_or _ c.args.cells.now c.loop-cell.cell-index 0 c.loop-cell-test.true c.requires
-
-pub loop-cell-preserved : goal.loop-cell-preserved
-loop-cell-preserved c = union_more _ _ _ _ c.loop-cell-test.true ∙ c.loop-cell.invariant
-
 pub returns : goal.returns
-returns c = union_end _ _ _ _ c.loop-cell-test.false ∙ c.loop-cell.invariant
+returns c = let e : c.fold.result ≡ fold (λ a x. bit_or a (get_or c.args.sets.now x 0)) 0 c.args.cells.now = search rules in e ∙ fold_union c.args.sets.now 0 c.args.cells.now

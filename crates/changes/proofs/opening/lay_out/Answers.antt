@@ -1,5 +1,5 @@
-use Rattle.std.proofs.Common.{refl, arith}
-use Rattle.changes.proofs.Standing.{stand_below, stand_few}
+use Rattle.std.proofs.Common.{arith}
+use Rattle.changes.proofs.Standing.{stand_below}
 use Rattle.changes.proofs.Layouts.{layout_many, layout_any, layout_stuck, layout_row}
 use Rattle.changes.proofs.opening.lay_out.Goals as goal
 
@@ -9,26 +9,23 @@ bounds-view-i c = omega (arith, c.requires.below, c.requires.long.sorts_long)
 pub set_apart-layout-requires : goal.set_apart-layout-requires
 set_apart-layout-requires c =
     let s = c.branches_of-cells.ensures.stand in
-    record { within = rw c.list.ensures (stand_below _ _ _ s); few = rw c.list.ensures (stand_few _ _ _ s) }
+    record { within = rw c.as_slice.ensures.value (stand_below _ _ _ s); few = c.as_slice.ensures.fits }
 
-pub returns-then-layout-gt1 : goal.returns-then-layout-gt1
-returns-then-layout-gt1 c = λ k b w t p s e.
-    layout_many c.args.view _ _ k b _ w _ t p s (rw c.list.ensures (c.branches_of-cells.ensures.branches t p).parts) e c.if-view-i.true c.set_apart-layout.result c.set_apart-layout.ensures c.if-layout-gt1.true
+pub returns-then-len-gt1 : goal.returns-then-len-gt1
+returns-then-len-gt1 c = λ k b w t p s e.
+    layout_many c.args.view _ _ k b _ w _ t p s (rw c.as_slice.ensures.value (c.branches_of-cells.ensures.branches t p)) e c.if-view-i.true c.set_apart-layout.result c.set_apart-layout.ensures (omega (arith, c.if-len-gt1.true))
 
 pub returns-then-view-i : goal.returns-then-view-i
 returns-then-view-i c = λ k b w t p s e.
-    layout_any c.args.view _ _ k b _ w _ t p s (rw c.list.ensures (c.branches_of-cells.ensures.branches t p).parts) e c.if-view-i.true c.set_apart-layout.result c.set_apart-layout.ensures c.if-layout-gt1.false
+    layout_any c.args.view _ _ k b _ w _ t p s (rw c.as_slice.ensures.value (c.branches_of-cells.ensures.branches t p)) e c.if-view-i.true c.set_apart-layout.result c.set_apart-layout.ensures (omega (arith, c.if-len-gt1.false))
 
 pub sequence-requires : goal.sequence-requires
-sequence-requires c = record {
-  within = stand_below _ _ _ c.branches_of-cells.ensures.stand;
-  few = (c.branches_of-cells.ensures.branches c.requires.tree c.requires.part).few;
-}
+sequence-requires c = stand_below _ _ _ c.branches_of-cells.ensures.stand
 
 pub returns-in_default : goal.returns-in_default
 returns-in_default c = λ k b w t p s e.
-    layout_stuck c.args.view _ _ k b _ w _ t p s (c.branches_of-cells.ensures.branches t p).parts e c.if-view-i.false c.in_default.ensures
+    layout_stuck c.args.view _ _ k b _ w _ t p s (c.branches_of-cells.ensures.branches t p) e c.if-view-i.false c.in_default.ensures
 
 pub returns : goal.returns
 returns c = λ k b w t p s e.
-    layout_row c.args.view _ _ k b _ w _ t p s (c.branches_of-cells.ensures.branches t p).parts e c.if-view-i.false _ _ refl c.in-Some.ensures
+    layout_row c.args.view _ _ k b _ w _ t p s (c.branches_of-cells.ensures.branches t p) e c.if-view-i.false _ _ _ c.new.ensures c.new-2.ensures c.in-Some.ensures

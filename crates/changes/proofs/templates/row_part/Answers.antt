@@ -1,4 +1,4 @@
-use Rattle.std.proofs.Common.{◌<◌, false, length, arith}
+use Rattle.std.proofs.Common.{false, arith}
 use Rattle.finds.specs.Sets.{has}
 use Rattle.trees.specs.Cells.{kids}
 use Rattle.trees.proofs.Sets.{sound_kids}
@@ -11,69 +11,69 @@ use Rattle.changes.proofs.Telling.{mask_not}
 use Rattle.changes.proofs.Writing.{kept_refl, kept_inside}
 use Rattle.changes.proofs.templates.row_part.Goals as goal
 
-pub empty_first-x-requires : goal.empty_first-x-requires
-empty_first-x-requires c = rw c.list-cells.ensures (stand_below _ _ _ c.branches_of-branches.ensures.stand)
+pub first_with-requires : goal.first_with-requires
+first_with-requires c = rw c.as_slice-cells.ensures.value (stand_below _ _ _ c.branches_of-branches.ensures.stand)
 
-pub returns-then-x-cells : goal.returns-then-x-cells
-returns-then-x-cells c = record {
+pub returns-in_default : goal.returns-in_default
+returns-in_default c = record {
   kept = kept_refl _ _;
-  rebuilt = λ t p q. rw (is_torn c.args.view _ _ _ _ _ c.list-cells.ensures c.branches_of-branches.ensures.branches _ c.empty_first-x.ensures (omega (arith, c.if-x-cells.true)) t p q) tt;
+  rebuilt = λ t p q. rw (is_torn c.args.view _ _ _ _ _ c.as_slice-cells.ensures.value c.branches_of-branches.ensures.branches _ c.in_default.ensures (omega arith) t p q) tt;
 }
 
 pub copies-next-requires : goal.copies-next-requires
 copies-next-requires c = record {
-  stand = before_stand c.args.view _ _ _ _ _ c.list-cells.ensures c.branches_of-branches.ensures.branches _ c.empty_first-x.ensures c.requires.stands;
-  room = room_before c.args.view _ _ _ _ _ c.list-cells.ensures c.branches_of-branches.ensures.branches _ c.empty_first-x.ensures c.requires.stands c.requires.row
-      (room_inside c.args.at _ c.inside.ensures c.requires.room) (omega (arith, c.if-x-cells.false, c.empty_first-x.ensures.within));
+  stand = before_stand c.args.view _ _ _ _ _ c.as_slice-cells.ensures.value c.branches_of-branches.ensures.branches _ c.in-Some.ensures.1 c.requires.stands;
+  room = room_before c.args.view _ _ _ _ _ c.as_slice-cells.ensures.value c.branches_of-branches.ensures.branches _ c.in-Some.ensures.1 c.requires.stands c.requires.row
+      (room_inside c.args.at _ c.inside.ensures c.requires.room) c.in-Some.ensures.0;
 }
 
 pub lay_open-requires : goal.lay_open-requires
 lay_open-requires c =
-    let l : c.empty_first-x.result < length c.list-cells.result.now = omega (arith, c.if-x-cells.false, c.empty_first-x.ensures.within) in
+    let l = c.in-Some.ensures.0 in
     record {
-      stands = stand_at _ _ _ _ (rw c.list-cells.ensures c.branches_of-branches.ensures.stand) l;
-      room = room_next c.args.view _ _ _ _ _ c.list-cells.ensures c.branches_of-branches.ensures.branches _ c.empty_first-x.ensures c.requires.stands c.requires.row (room_inside c.args.at _ c.inside.ensures c.requires.room) l c.copies-next.ensures.copied;
+      stands = stand_at _ _ _ _ (rw c.as_slice-cells.ensures.value c.branches_of-branches.ensures.stand) l;
+      room = room_next c.args.view _ _ _ _ _ c.as_slice-cells.ensures.value c.branches_of-branches.ensures.branches _ c.in-Some.ensures.1 c.requires.stands c.requires.row (room_inside c.args.at _ c.inside.ensures c.requires.room) l c.copies-next.ensures.copied;
     }
 
-pub returns-in_default : goal.returns-in_default
-returns-in_default c =
-    let l : c.empty_first-x.result < length c.list-cells.result.now = omega (arith, c.if-x-cells.false, c.empty_first-x.ensures.within) in
-    let u = c.in_default.ensures in
+pub returns-in_default-lay_open : goal.returns-in_default-lay_open
+returns-in_default-lay_open c =
+    let l = c.in-Some.ensures.0 in
+    let u = c.in_default-lay_open.ensures in
     record {
       kept = kept_inside c.args.at c.inside.ensures
-          (kept_before c.args.view _ _ _ _ _ c.list-cells.ensures c.branches_of-branches.ensures.branches _ c.empty_first-x.ensures c.requires.stands c.requires.row (room_inside c.args.at _ c.inside.ensures c.requires.room) l c.copies-next.ensures.copied c.copies-next.ensures.kept u.kept) c.put.ensures.kept;
-      rebuilt = λ t p q. rebuilt_none c.args.at (cut_stuck c.args.view _ _ _ _ _ c.list-cells.ensures c.branches_of-branches.ensures.branches _ c.empty_first-x.ensures l c.copies-next.ensures.copied u.kept u.opened t p q);
+          (kept_before c.args.view _ _ _ _ _ c.as_slice-cells.ensures.value c.branches_of-branches.ensures.branches _ c.in-Some.ensures.1 c.requires.stands c.requires.row (room_inside c.args.at _ c.inside.ensures c.requires.room) l c.copies-next.ensures.copied c.copies-next.ensures.kept u.kept) c.put.ensures.kept;
+      rebuilt = λ t p q. rebuilt_none c.args.at (cut_stuck c.args.view _ _ _ _ _ c.as_slice-cells.ensures.value c.branches_of-branches.ensures.branches _ c.in-Some.ensures.1 l c.copies-next.ensures.copied u.kept u.opened t p q);
     }
 
 pub lay_all-requires : goal.lay_all-requires
 lay_all-requires c =
-    let l : c.empty_first-x.result < length c.list-cells.result.now = omega (arith, c.if-x-cells.false, c.empty_first-x.ensures.within) in
+    let l = c.in-Some.ensures.0 in
     record {
-      stand = behind_stand c.args.view _ _ _ _ _ c.list-cells.ensures c.branches_of-branches.ensures.branches _ c.empty_first-x.ensures c.requires.stands;
-      room = room_behind c.args.view _ _ _ _ _ c.list-cells.ensures c.branches_of-branches.ensures.branches _ c.empty_first-x.ensures c.requires.stands c.requires.row (room_inside c.args.at _ c.inside.ensures c.requires.room) l c.copies-next.ensures.copied c.in-Some.ensures.opened;
+      stand = behind_stand c.args.view _ _ _ _ _ c.as_slice-cells.ensures.value c.branches_of-branches.ensures.branches _ c.in-Some.ensures.1 c.requires.stands;
+      room = room_behind c.args.view _ _ _ _ _ c.as_slice-cells.ensures.value c.branches_of-branches.ensures.branches _ c.in-Some.ensures.1 c.requires.stands c.requires.row (room_inside c.args.at _ c.inside.ensures c.requires.room) l c.copies-next.ensures.copied c.in-Some-lay_open.ensures.opened;
     }
 
 pub returns-in_default-lay_all : goal.returns-in_default-lay_all
 returns-in_default-lay_all c =
-    let l : c.empty_first-x.result < length c.list-cells.result.now = omega (arith, c.if-x-cells.false, c.empty_first-x.ensures.within) in
-    let u = c.in-Some.ensures in
+    let l = c.in-Some.ensures.0 in
+    let u = c.in-Some-lay_open.ensures in
     let z = c.in_default-lay_all.ensures in
     record {
       kept = kept_inside c.args.at c.inside.ensures
-          (kept_next c.args.view _ _ _ _ _ c.list-cells.ensures c.branches_of-branches.ensures.branches _ c.empty_first-x.ensures c.requires.stands c.requires.row (room_inside c.args.at _ c.inside.ensures c.requires.room) l c.copies-next.ensures.copied u.opened c.copies-next.ensures.kept u.kept z.kept) c.put.ensures.kept;
+          (kept_next c.args.view _ _ _ _ _ c.as_slice-cells.ensures.value c.branches_of-branches.ensures.branches _ c.in-Some.ensures.1 c.requires.stands c.requires.row (room_inside c.args.at _ c.inside.ensures c.requires.room) l c.copies-next.ensures.copied u.opened c.copies-next.ensures.kept u.kept z.kept) c.put.ensures.kept;
       rebuilt = λ t p q.
-          rebuilt_none c.args.at (cut_opened c.args.view _ _ _ _ _ c.list-cells.ensures c.branches_of-branches.ensures.branches _ c.empty_first-x.ensures l c.copies-next.ensures.copied u.kept u.opened z.kept (z.opened (has c.args.kind) false (mask_not c.args.kind (omega arith))) t p q);
+          rebuilt_none c.args.at (cut_opened c.args.view _ _ _ _ _ c.as_slice-cells.ensures.value c.branches_of-branches.ensures.branches _ c.in-Some.ensures.1 l c.copies-next.ensures.copied u.kept u.opened z.kept (z.opened (has c.args.kind) false (mask_not c.args.kind (omega arith))) t p q);
     }
 
 pub returns : goal.returns
 returns c =
-    let l : c.empty_first-x.result < length c.list-cells.result.now = omega (arith, c.if-x-cells.false, c.empty_first-x.ensures.within) in
-    let u = c.in-Some.ensures in
+    let l = c.in-Some.ensures.0 in
+    let u = c.in-Some-lay_open.ensures in
     let z = c.in-Some-lay_all.ensures in
-    let k = kept_next c.args.view _ _ _ _ _ c.list-cells.ensures c.branches_of-branches.ensures.branches _ c.empty_first-x.ensures c.requires.stands c.requires.row (room_inside c.args.at _ c.inside.ensures c.requires.room) l c.copies-next.ensures.copied u.opened c.copies-next.ensures.kept u.kept z.kept in
+    let k = kept_next c.args.view _ _ _ _ _ c.as_slice-cells.ensures.value c.branches_of-branches.ensures.branches _ c.in-Some.ensures.1 c.requires.stands c.requires.row (room_inside c.args.at _ c.inside.ensures c.requires.room) l c.copies-next.ensures.copied u.opened c.copies-next.ensures.kept u.kept z.kept in
     record {
       kept = kept_inside c.args.at c.inside.ensures k c.put.ensures.kept;
       rebuilt = λ t p q.
           rebuilt_row c.args.at (kids t) c.inside.ensures k c.put.ensures.there (kids_set _ _ t p.0 (omega (arith, c.requires.row))).0 (keeps_cut (has c.args.kind) (kids t) (sound_kids t q).good)
-          (cut_opened c.args.view _ _ _ _ _ c.list-cells.ensures c.branches_of-branches.ensures.branches _ c.empty_first-x.ensures l c.copies-next.ensures.copied u.kept u.opened z.kept (z.opened (has c.args.kind) false (mask_not c.args.kind (omega arith))) t p q);
+          (cut_opened c.args.view _ _ _ _ _ c.as_slice-cells.ensures.value c.branches_of-branches.ensures.branches _ c.in-Some.ensures.1 l c.copies-next.ensures.copied u.kept u.opened z.kept (z.opened (has c.args.kind) false (mask_not c.args.kind (omega arith))) t p q);
     }
