@@ -8,7 +8,7 @@ use crate::sets::Sets;
 use tables::sets::contains;
 
 // A pair with the number of its cell, the graves c for which it clashes with (second, c), and those for which it clashes with (c, first).
-#[derive(Clone, Copy, Drop)]
+#[derive(Clone, Copy, PartialEq, Eq, Debug, Drop)]
 pub struct Work {
     pub cell: usize,
     pub pair: Pair,
@@ -18,8 +18,7 @@ pub struct Work {
 
 // The graves c for which the pairs (a, b) and (b, c) clash: a itself, and those of each kind with a and without b.
 fn beyond(sets: Sets, a: u8, b: u8) -> u64
-    requires few { sets.graves ≤ 64 }
-    requires known { (a < sets.graves) × (b < sets.graves) }
+    requires { (a < sets.graves) × (b < sets.graves) }
     ensures { Clashing (finds_in_sets sets.entry) a b result }
 {
     let mut graves = 1u64 << a;
@@ -33,8 +32,7 @@ fn beyond(sets: Sets, a: u8, b: u8) -> u64
 
 // The pair with this cell, ready for work.
 pub fn at_work(sets: Sets, cell: usize) -> Work
-    requires few { sets.graves ≤ 64 }
-    requires known { Numbers (finds_in_sets sets) cell }
+    requires { Numbers (finds_in_sets sets) cell }
     ensures { (AtWork (finds_in_sets sets.entry) result) × (result.cell ≡ cell) }
 {
     let n = sets.graves as usize;
@@ -52,7 +50,6 @@ pub fn at_work(sets: Sets, cell: usize) -> Work
 
 // The cell of the pair that stands beside the one at work at a place, if the two clash: (second, c) at c, and (c, first) at n + c.
 pub fn neighbour(sets: Sets, work: Work, place: usize) -> Option<usize>
-    requires few { sets.graves ≤ 64 }
     requires ready { AtWork (finds_in_sets sets) work }
     requires within { place < 2 * sets.graves }
     ensures { Meets (finds_in_sets sets.entry) (said work.pair) place result }

@@ -4,15 +4,15 @@ use Rattle.grounds.proofs.Numbers.{split_proper, split_number, split_below}
 use Rattle.grounds.proofs.neighbours.at_work.Goals as goal
 
 pub overflow_cast-pair : goal.overflow_cast-pair
-overflow_cast-pair c = let h = (split_proper (finds_in_sets c.args.sets) c.args.cell c.requires.known).0 in omega arith
+overflow_cast-pair c = let h = (split_proper (finds_in_sets c.args.sets) c.args.cell c.requires).0 in omega arith
 
 pub beyond-requires : goal.beyond-requires
-beyond-requires c = let h = split_proper (finds_in_sets c.args.sets) c.args.cell c.requires.known in record { few = c.requires.few; known = (h.0, h.1) }
+beyond-requires c = let h = split_proper (finds_in_sets c.args.sets) c.args.cell c.requires in (h.0, h.1)
 
 pub beyond-requires-2 : goal.beyond-requires-2
-beyond-requires-2 c = let h = split_proper (finds_in_sets c.args.sets) c.args.cell c.requires.known in record { few = c.requires.few; known = (h.1, h.0) }
+beyond-requires-2 c = let h = split_proper (finds_in_sets c.args.sets) c.args.cell c.requires in (h.1, h.0)
 
 pub returns : goal.returns
 returns c =
     let f = finds_in_sets c.args.sets in
-    (record { numbers = split_number f c.args.cell c.requires.known; within = split_below f c.args.cell c.requires.known; proper = split_proper f c.args.cell c.requires.known; on = c.beyond.ensures; off = c.beyond-2.ensures }, refl)
+    (record { numbers = split_number f c.args.cell c.requires; within = split_below f c.args.cell c.requires; proper = split_proper f c.args.cell c.requires; on = c.beyond.ensures; off = c.beyond-2.ensures }, refl)
