@@ -2,7 +2,6 @@
 ghost use Rattle.std.specs.Prelude.{◌≡◌, ◌*◌, ◌≤◌, length, slice_index};
 ghost use Rattle.grounds.specs.Neighbours.{finds_in_sets};
 
-use crate::neighbours::{at_work, neighbour};
 use crate::sets::Sets;
 
 // Two clashing pairs of one colour, by their cells.
@@ -90,9 +89,9 @@ impl Search<'_> {
             }
             self.enter(seed, seed);
             while head < self.tail {
-                let work = at_work(sets, self.queue[head] as usize);
+                let work = sets.at_work(self.queue[head] as usize);
                 for place in 0..2 * n {
-                    let Some(other) = neighbour(sets, work, place) else {
+                    let Some(other) = sets.neighbour(work, place) else {
                         continue;
                     };
                     if let Some(fork) = self.meet(work.cell, other) {
