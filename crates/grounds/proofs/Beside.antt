@@ -1,14 +1,16 @@
 -- The pairs beside a pair, and which of them clash with it.
-use Rattle.std.proofs.Common.{◌≡◌, ℕ, ◌-◌, ◌*◌, ◌<◌, ◌≤◌, true, false, ◌↔◌, sym, refl, subst, inl, inr, ⊎_elim, arith, le-ltb, lt-ltb}
+use Rattle.std.proofs.Common.{◌≡◌, ℕ, ◌-◌, ◌*◌, ◌<◌, ◌≤◌, Bool, true, false, ◌↔◌, Option, sym, ap, ◌∙◌, refl, subst, inl, inr, ⊎_elim, arith, le-ltb, lt-ltb}
+use Rattle.std.specs.Bool.{then_some}
 use Rattle.finds.specs.Finds.{Finds, Pair}
 use Rattle.finds.specs.Sets.{has}
 use Rattle.clashes.specs.Colours.{pair, Proper}
 use Rattle.clashes.specs.Rings.{Joint}
 use Rattle.clashes.proofs.Clashes.{first_of, second_of, opposed, parted, other_way, joint_op, joint_left, joint_tested}
-use Rattle.grounds.specs.Neighbours.{Beyond, Clashing}
+use Rattle.grounds.specs.Checking.{Decided}
+use Rattle.grounds.specs.Neighbours.{Beyond, Clashing, Meets}
 use Rattle.grounds.specs.Notes.{number, beside}
 use Rattle.grounds.proofs.Numbers.{number_below}
-use Rattle.grounds.proofs.Clashing.{decided_true, decided_false}
+use Rattle.grounds.proofs.Clashing.{decided_as}
 
 -- Below n stand the pairs that go on from it, and then those that lead up to it.
 pub beside_on : (n : ℕ) (p : Pair) (k : ℕ) → k < n → pair p.second k ≡ beside n p k
@@ -31,23 +33,22 @@ module _ (f : Finds) (p : Pair) (h : Proper f p) where
   )
 
   -- The sets of graves tell which pairs beside it clash with it.
-  module _ (set k : ℕ) (l : k < f.graves) (c : Clashing f p.first p.second set) where
-    pub on_yes : has set k ≡ true → Joint f p (beside f.graves p k)
-    on_yes e = subst (Joint f p) (beside_on f.graves p k l) ((on_joint k).0 (decided_true (has set k) (Beyond f p.first p.second k) (c k l) e))
+  pub on_tells : (set k : ℕ) → k < f.graves → Clashing f p.first p.second set → Decided (has set k) (Joint f p (beside f.graves p k))
+  on_tells set k l c = subst (λ (q : Pair). Decided (has set k) (Joint f p q)) (beside_on f.graves p k l) (decided_as (has set k) (on_joint k).0 (on_joint k).1 (c k l))
 
-    pub on_no : has set k ≡ false → Joint f p (beside f.graves p k) → ⊥
-    on_no e j = decided_false (has set k) (Beyond f p.first p.second k) (c k l) e ((on_joint k).1 (subst (Joint f p) (sym (beside_on f.graves p k l)) j))
-
-  module _ (set k : ℕ) (le : f.graves ≤ k) (l : k - f.graves < f.graves) (c : Clashing f p.second p.first set) where
-    abbrev g : ℕ
-    g = k - f.graves
-
-    pub back_yes : has set g ≡ true → Joint f p (beside f.graves p k)
-    back_yes e = subst (Joint f p) (beside_back f.graves p k le) ((back_joint g).0 (decided_true (has set g) (Beyond f p.second p.first g) (c g l) e))
-
-    pub back_no : has set g ≡ false → Joint f p (beside f.graves p k) → ⊥
-    back_no e j = decided_false (has set g) (Beyond f p.second p.first g) (c g l) e ((back_joint g).1 (subst (Joint f p) (sym (beside_back f.graves p k le)) j))
+  pub back_tells : (set k : ℕ) → f.graves ≤ k → k - f.graves < f.graves → Clashing f p.second p.first set → Decided (has set (k - f.graves)) (Joint f p (beside f.graves p k))
+  back_tells set k le l c = let g = k - f.graves in
+      subst (λ (q : Pair). Decided (has set g) (Joint f p q)) (beside_back f.graves p k le) (decided_as (has set g) (back_joint g).0 (back_joint g).1 (c g l))
 
 -- A pair that clashes with it has a number.
-pub beside_below : (f : Finds) (p : Pair) (k x : ℕ) → Joint f p (beside f.graves p k) → x ≡ number f.graves (beside f.graves p k) → x < f.graves * f.graves
+beside_below : (f : Finds) (p : Pair) (k x : ℕ) → Joint f p (beside f.graves p k) → x ≡ number f.graves (beside f.graves p k) → x < f.graves * f.graves
 beside_below f p k x j e = let z = number_below f (beside f.graves p k) (joint_left (joint_op j)) in omega arith
+
+-- Where a set tells whether they clash, the answer is the number of the pair if it does.
+pub meets : (f : Finds) (p : Pair) (k x : ℕ) {told has : Bool} {r : Option ℕ} → told ≡ has → r ≡ then_some told x → Decided has (Joint f p (beside f.graves p k)) →
+    x ≡ number f.graves (beside f.graves p k) → Meets f p k r
+meets f p k x {has = h} is gives d e = subst (Meets f p k) (sym (gives ∙ ap (λ (b : Bool). then_some b x) is)) (go h d)
+  where
+    go : (b : Bool) → Decided b (Joint f p (beside f.graves p k)) → Meets f p k (then_some b x)
+    go true j = (j, e, beside_below f p k x j e)
+    go false n = n

@@ -1,11 +1,14 @@
 -- Unions of sets of graves: which graves they have, and the union of all kinds with a grave and without another.
-use Rattle.std.proofs.Common.{◌≡◌, ℕ, zero, suc, ◌+◌, ◌/◌, ◌%◌, ◌^◌, ◌<◌, ◌≤◌, max, Bool, true, false, ◌||◌, eqb, ◌⊎◌, List, length, get_or, sym, refl, ap, ◌∙◌, subst, inl, inr, ⊎_elim, pow-suc, arith, ne_eqb}
+use Rattle.std.proofs.Common.{◌≡◌, ℕ, zero, suc, ◌/◌, ◌%◌, ◌^◌, ◌<◌, ◌≤◌, max, Bool, true, false, ◌||◌, ◌&&◌, not, cond, bit_or, eqb, ◌⊎◌, List, [], ◌∷◌, length, get_or, sym, refl, ap, ◌∙◌, subst, inl, inr, ⊎_elim, pow-suc, true≢false, arith, ne_eqb}
 use mathlib.Core.Bool.{false≢true}
-use native.Mathlib.Decide.{ℕ_discrete}
-use lib.Bits.{bit_or, or_step}
+use lib.Bits.{or_step}
+use Rattle.std.proofs.lemmas.Bool.{and_parts, and_from, not-true, or_cases, or_left, or_right}
+use Rattle.std.specs.List.{fold}
 use Rattle.finds.specs.Sets.{bit, has}
 use Rattle.grounds.specs.Checking.{Decided}
-use Rattle.grounds.specs.Neighbours.{Clashing}
+use Rattle.finds.specs.Finds.{Finds}
+use Rattle.clashes.specs.Rings.{Parts}
+use Rattle.grounds.specs.Neighbours.{Beyond, Clashing, parting, union}
 use Rattle.tables.specs.Format.{finds_of_sets}
 use Rattle.grounds.proofs.KindSets.{Parting, in_sets, parts_in, parting_of}
 use Rattle.grounds.proofs.Clashing.{decided_no, decided_as}
@@ -23,6 +26,9 @@ bit_zero (suc g) = bit_zero g
 bit_few : (g s : ℕ) → bit g s ≤ 1
 bit_few zero s = omega arith
 bit_few (suc g) s = bit_few g (s / 2)
+
+has_none : (g : ℕ) → has 0 g ≡ false
+has_none g = ap (λ (x : ℕ). eqb x 1) (bit_zero g)
 
 -- The set of one grave has just that.
 pub has_one : (a g : ℕ) → Decided (has (2 ^ a) g) (g ≡ a)
@@ -57,54 +63,59 @@ decided_self false = false≢true
 
 -- ---- the union of all kinds with a and without b
 
-module _ (sets : List ℕ) (a b : ℕ) where
-  -- The grave c is a itself, or has one of the first m kinds in common with a that b has not.
-  abbrev pub Upto : ℕ → ℕ → Type 0
-  Upto m c = (c ≡ a) ⊎ ((i : ℕ) × (i < m) × Parting (get_or sets i 0) a b c)
+module _ (a b c : ℕ) where
+  -- One of the sets has a and c and not b.
+  abbrev pub Part : List ℕ → Type 0
+  Part sets = (i : ℕ) × (i < length sets) × Parting (get_or sets i 0) a b c
 
-  -- The set has just such graves.
-  abbrev pub Union : ℕ → ℕ → Type 0
-  Union m set = (c : ℕ) → Decided (has set c) (Upto m c)
+  later : (k : ℕ) (ks : List ℕ) → Part ks → Part (k ∷ ks)
+  later k ks p = (suc p.0, (let l = p.1 in omega arith), p.2)
 
-  pub union_none : Union 0 (2 ^ a)
-  union_none c = decided_as (has (2 ^ a) c) inl (λ h. ⊎_elim (λ e. e) (λ i. absurd (let l = i.1 in omega arith)) h) (has_one a c)
-
-  -- One kind more that parts a from b comes in.
-  pub union_more : (m set : ℕ) → Union m set → has (get_or sets m 0) a ≡ true → has (get_or sets m 0) b ≡ false → Union (m + 1) (bit_or set (get_or sets m 0))
-  union_more m set u ha hb c = subst (λ (x : Bool). Decided x (Upto (m + 1) c)) (sym (has_or set (get_or sets m 0) c))
-      (decided_as (has set c || has (get_or sets m 0) c) to from (decided_or (has set c) (has (get_or sets m 0) c) (Upto m c) (has (get_or sets m 0) c ≡ true) (u c) (decided_self (has (get_or sets m 0) c))))
+  -- The first of the sets, or one of the others.
+  first_of : (k : ℕ) (ks : List ℕ) → Part (k ∷ ks) → Parting k a b c ⊎ Part ks
+  first_of k ks p = go p.0 p.1 p.2
     where
-      to : Upto m c ⊎ (has (get_or sets m 0) c ≡ true) → Upto (m + 1) c
-      to (inl (inl e)) = inl e
-      to (inl (inr i)) = inr (i.0, (let l = i.1 in omega arith), i.2)
-      to (inr h) = inr (m, omega arith, (ha, hb, h))
+      go : (i : ℕ) → i < length (k ∷ ks) → Parting (get_or (k ∷ ks) i 0) a b c → Parting k a b c ⊎ Part ks
+      go zero l h = inl h
+      go (suc i) l h = inr (i, omega arith, h)
 
-      from : Upto (m + 1) c → Upto m c ⊎ (has (get_or sets m 0) c ≡ true)
-      from (inl e) = inl (inl e)
-      from (inr i) = last (ℕ_discrete i.0 m)
-        where
-          last : Dec (i.0 ≡ m) → Upto m c ⊎ (has (get_or sets m 0) c ≡ true)
-          last (yes e) = inr (ap (λ (j : ℕ). has (get_or sets j 0) c) (sym e) ∙ i.2.2)
-          last (no e) = inl (inr (i.0, (let l = i.1 in omega arith), i.2))
-
-  -- A kind that does not part them stays out.
-  pub union_same : (m set : ℕ) → Union m set → (has (get_or sets m 0) a ≡ true → has (get_or sets m 0) b ≡ false → ⊥) → Union (m + 1) set
-  union_same m set u never c = decided_as (has set c) to from (u c)
+  -- Sets that part a from b come into the union, and no others.
+  grown : (s : ℕ) (ks : List ℕ) → Decided (has (fold (λ s k. bit_or s k) s (parting a b ks)) c) ((has s c ≡ true) ⊎ Part ks)
+  grown s [] = decided_as (has s c) inl (⊎_elim (λ e. e) (λ p. absurd (let l = p.1 in omega arith))) (decided_self (has s c))
+  grown s (k ∷ ks) = go (has k a && not (has k b)) refl (grown (bit_or s k) ks) (grown s ks)
     where
-      to : Upto m c → Upto (m + 1) c
-      to (inl e) = inl e
-      to (inr i) = inr (i.0, (let l = i.1 in omega arith), i.2)
+      Grown : ℕ → Type 0
+      Grown t = Decided (has (fold (λ s k. bit_or s k) t (parting a b ks)) c) ((has t c ≡ true) ⊎ Part ks)
 
-      from : Upto (m + 1) c → Upto m c
-      from (inl e) = inl e
-      from (inr i) = last (ℕ_discrete i.0 m)
+      go : (q : Bool) → (has k a && not (has k b)) ≡ q → Grown (bit_or s k) → Grown s →
+          Decided (has (fold (λ s k. bit_or s k) s (cond q (k ∷ parting a b ks) (parting a b ks))) c) ((has s c ≡ true) ⊎ Part (k ∷ ks))
+      go true e more same = decided_as (has (fold (λ s k. bit_or s k) (bit_or s k) (parting a b ks)) c)
+          (⊎_elim (λ h. ⊎_elim inl (λ g. inr (zero, omega arith, (both.0, not-true (has k b) both.1, g))) (or_cases (has s c) (has k c) (sym (has_or s k c) ∙ h))) (λ p. inr (later k ks p)))
+          (⊎_elim (λ h. inl (has_or s k c ∙ or_left (has s c) (has k c) h))
+          (λ p. ⊎_elim (λ g. inl (has_or s k c ∙ or_right (has s c) (has k c) g.2)) inr (first_of k ks p)))
+          more
         where
-          last : Dec (i.0 ≡ m) → Upto m c
-          last (yes e) = absurd (never (ap (λ (j : ℕ). has (get_or sets j 0) a) (sym e) ∙ i.2.0) (ap (λ (j : ℕ). has (get_or sets j 0) b) (sym e) ∙ i.2.1))
-          last (no e) = inr (i.0, (let l = i.1 in omega arith), i.2)
+          both : (has k a ≡ true) × (not (has k b) ≡ true)
+          both = and_parts (has k a) (not (has k b)) e
+      go false e more same = decided_as (has (fold (λ s k. bit_or s k) s (parting a b ks)) c)
+          (⊎_elim inl (λ p. inr (later k ks p)))
+          (⊎_elim inl (λ p. ⊎_elim (λ g. absurd (true≢false (sym (and_from (has k a) (not (has k b)) g.0 (ap not g.1)) ∙ e))) inr (first_of k ks p)))
+          same
 
--- With all kinds it has just the graves c for which (a,b) and (b,c) clash.
-pub union_all : (n : ℕ) (sets : List ℕ) (a b m set : ℕ) → m ≡ length sets → a < n → b < n → Union sets a b m set → Clashing (finds_of_sets n sets) a b set
-union_all n sets a b m set e la lb u c lc = decided_as (has set c)
-    (⊎_elim inl (λ i. inr (parts_in (in_sets n sets) a b c i.0 (let l = i.1 in omega arith) la lb lc i.2)))
-    (⊎_elim inl (λ s. inr (let p = parting_of (in_sets n sets) a b c s in (p.0, (let l = p.1 in omega arith), p.2)))) (u c)
+-- With a it has just the graves c for which (a,b) and (b,c) clash.
+pub beyond_is : (n : ℕ) (sets : List ℕ) (a b : ℕ) → a < n → b < n → Clashing (finds_of_sets n sets) a b (bit_or (2 ^ a) (union (parting a b sets)))
+beyond_is n sets a b la lb c lc =
+    subst (λ (x : Bool). Decided x (Beyond f a b c)) (sym (has_or (2 ^ a) all c))
+    (decided_as (has (2 ^ a) c || has all c) (λ h. h) (λ h. h) (decided_or (has (2 ^ a) c) (has all c) (c ≡ a) (Parts f a b c) (has_one a c) parts))
+  where
+    f : Finds
+    f = finds_of_sets n sets
+
+    all : ℕ
+    all = union (parting a b sets)
+
+    parts : Decided (has all c) (Parts f a b c)
+    parts = decided_as (has all c)
+        (⊎_elim (λ e. absurd (false≢true (sym (has_none c) ∙ e))) (λ i. parts_in (in_sets n sets) a b c i.0 i.1 la lb lc i.2))
+        (λ s. inr (let p = parting_of (in_sets n sets) a b c s in p))
+        (grown a b c 0 sets)

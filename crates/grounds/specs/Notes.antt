@@ -1,7 +1,7 @@
 -- What the search for a ring notes in lent cells, and what it keeps true of them.
 -- The cells are numbered as the pairs are. A cell of `depths` holds one more than the depth of its pair, and 0 for a pair that is not seen; a cell of `parents` holds the number of the pair's parent.
 -- `queue` holds the numbers of the pairs seen, in the order in which they were: those below `head` are done, and those from there to `tail` wait.
-use Rattle.std.specs.Prelude.{◌≡◌, ℕ, ◌+◌, ◌-◌, ◌*◌, ◌/◌, ◌%◌, ◌<◌, ◌≤◌, cond, ◌≢◌, ◌⊎◌, List, [], ◌∷◌, nat_lt, slice_index, slice_index_or, slice_set}
+use Rattle.std.specs.Prelude.{◌≡◌, ℕ, ◌+◌, ◌-◌, ◌*◌, ◌/◌, ◌%◌, ◌<◌, ◌≤◌, cond, ◌≢◌, ◌⊎◌, List, [], ◌∷◌, nat_lt, slice_index, slice_index_or}
 use Rattle.finds.specs.Finds.{Finds, Pair}
 use Rattle.clashes.specs.Colours.{pair, Proper}
 use Rattle.clashes.specs.Rings.{Joint}
@@ -42,12 +42,6 @@ pub record Notes (f : Finds) (below : ℕ) (depths parents queue : List ℕ) (he
   -- No pair is deeper than there are pairs seen.
   pub shallow : (p : Pair) → Proper f p → slice_index depths (number f.graves p) ≤ tail
   pub ordered : head ≤ tail
-
--- One pair more is noted: its depth and its parent in its cells, and its number at the end of the queue.
-pub record Entered (x parent depth tail : ℕ) (depths parents queue depths' parents' queue' : List ℕ) : Type 0 where
-  pub depths_are : depths' ≡ slice_set depths x depth
-  pub parents_are : parents' ≡ slice_set parents x parent
-  pub queue_is : queue' ≡ slice_set queue tail x
 
 -- The pairs that may clash with a pair (a,b) by their places: (b,k) at k, and (k,a) at n + k.
 abbrev pub beside : ℕ → Pair → ℕ → Pair

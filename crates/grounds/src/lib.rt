@@ -4,6 +4,7 @@
 pub mod checking;
 pub mod finding;
 mod neighbours;
+pub mod notebook;
 pub mod outcome;
 mod pairs;
 mod readback;

@@ -1,14 +1,14 @@
 // The pairs that clash with a pair.
 ghost use Rattle.std.specs.Prelude.{◌≡◌, ◌*◌, ◌<◌, ◌≤◌};
 ghost use Rattle.grounds.specs.Checking.{said};
-ghost use Rattle.grounds.specs.Neighbours.{finds_in_sets, Clashing, Numbers, AtWork, Meets};
+ghost use Rattle.grounds.specs.Neighbours.{finds_in_sets, union, parting, Clashing, Numbers, AtWork, Meets};
 
 use crate::pairs::Pair;
 use crate::sets::Sets;
 use tables::sets::contains;
 
 // A pair with the number of its cell, the graves c for which it clashes with (second, c), and those for which it clashes with (c, first).
-#[derive(Clone, Copy, Drop)]
+#[derive(Clone, Copy, PartialEq, Eq, Debug, Drop)]
 pub struct Work {
     pub cell: usize,
     pub pair: Pair,
@@ -16,57 +16,55 @@ pub struct Work {
     pub back: u64,
 }
 
-// The graves c for which the pairs (a, b) and (b, c) clash: a itself, and those of each kind with a and without b.
-fn beyond(sets: Sets, a: u8, b: u8) -> u64
-    requires few { sets.graves ≤ 64 }
-    requires known { (a < sets.graves) × (b < sets.graves) }
-    ensures { Clashing (finds_in_sets sets.entry) a b result }
-{
-    let mut graves = 1u64 << a;
-    for kind in sets.kinds {
-        if contains(*kind, a) && !contains(*kind, b) {
-            graves |= *kind;
+impl Sets<'_> {
+    // The graves of all kinds with a and without b.
+    fn parting(self, a: u8, b: u8) -> u64
+        ensures { result ≡ union (parting a b self.entry.kinds.now) }
+    {
+        self.kinds
+            .iter()
+            .filter(|kind| contains(**kind, a) && !contains(**kind, b))
+            .fold(0, |graves, kind| graves | *kind)
+    }
+
+    // The graves c for which the pairs (a, b) and (b, c) clash: a itself, and those of each kind with a and without b.
+    fn beyond(self, a: u8, b: u8) -> u64
+        requires { (a < self.graves) × (b < self.graves) }
+        ensures { Clashing (finds_in_sets self.entry) a b result }
+    {
+        (1u64 << a) | self.parting(a, b)
+    }
+
+    // The pair with this cell, ready for work.
+    pub fn at_work(self, cell: usize) -> Work
+        requires { Numbers (finds_in_sets self) cell }
+        ensures { (AtWork (finds_in_sets self.entry) result) × (result.cell ≡ cell) }
+    {
+        let n = self.graves as usize;
+        let pair = Pair {
+            first: (cell / n) as u8,
+            second: (cell % n) as u8,
+        };
+        Work {
+            cell,
+            pair,
+            onward: self.beyond(pair.first, pair.second),
+            back: self.beyond(pair.second, pair.first),
         }
     }
-    graves
-}
 
-// The pair with this cell, ready for work.
-pub fn at_work(sets: Sets, cell: usize) -> Work
-    requires few { sets.graves ≤ 64 }
-    requires known { Numbers (finds_in_sets sets) cell }
-    ensures { (AtWork (finds_in_sets sets.entry) result) × (result.cell ≡ cell) }
-{
-    let n = sets.graves as usize;
-    let pair = Pair {
-        first: (cell / n) as u8,
-        second: (cell % n) as u8,
-    };
-    Work {
-        cell,
-        pair,
-        onward: beyond(sets, pair.first, pair.second),
-        back: beyond(sets, pair.second, pair.first),
-    }
-}
-
-// The cell of the pair that stands beside the one at work at a place, if the two clash: (second, c) at c, and (c, first) at n + c.
-pub fn neighbour(sets: Sets, work: Work, place: usize) -> Option<usize>
-    requires few { sets.graves ≤ 64 }
-    requires ready { AtWork (finds_in_sets sets) work }
-    requires within { place < 2 * sets.graves }
-    ensures { Meets (finds_in_sets sets.entry) (said work.pair) place result }
-{
-    let n = sets.graves as usize;
-    if place < n {
-        if !contains(work.onward, place as u8) {
-            return None;
+    // The cell of the pair that stands beside the one at work at a place, if the two clash: (second, c) at c, and (c, first) at n + c.
+    pub fn neighbour(self, work: Work, place: usize) -> Option<usize>
+        requires ready { AtWork (finds_in_sets self) work }
+        requires within { place < 2 * self.graves }
+        ensures { Meets (finds_in_sets self.entry) (said work.pair) place result }
+    {
+        let n = self.graves as usize;
+        if place < n {
+            contains(work.onward, place as u8).then_some(work.pair.second as usize * n + place)
+        } else {
+            let grave = place - n;
+            contains(work.back, grave as u8).then_some(grave * n + work.pair.first as usize)
         }
-        return Some(work.pair.second as usize * n + place);
     }
-    let grave = place - n;
-    if !contains(work.back, grave as u8) {
-        return None;
-    }
-    Some(grave * n + work.pair.first as usize)
 }

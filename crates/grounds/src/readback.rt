@@ -5,44 +5,16 @@ ghost use Rattle.grounds.specs.Finding.{RingIn};
 ghost use Rattle.grounds.specs.Neighbours.{finds_in_sets};
 ghost use Rattle.grounds.specs.Notes.{numbered, Forked};
 ghost use Rattle.grounds.specs.Reading.{Closed};
-ghost use Rattle.grounds.specs.Searching.{Sized};
+ghost use Rattle.grounds.specs.Searching.{SameCells};
 ghost use Rattle.tables.specs.Room.{ring_for};
 
-use crate::search::Fork;
-use crate::sets::Sets;
+use crate::search::{Fork, Search};
 
 // Where the two legs of a ring stand in the queue: the one below `left`, and the other from `right` on.
-#[derive(Clone, Copy, Drop)]
+#[derive(Clone, Copy, PartialEq, Eq, Debug, Drop)]
 struct Legs {
     left: usize,
     right: usize,
-}
-
-// Goes up from both pairs, always from the deeper one, until they meet, and writes the pairs into the queue, which is no longer needed.
-fn climb(sets: Sets, depths: &[u16], parents: &[u16], queue: &mut [u16], fork: Fork) -> Legs
-    requires some { 1 ≤ sets.graves }
-    requires sized { Sized sets.graves depths.now parents.now queue.old }
-    requires forked { Forked (finds_in_sets sets) depths.now parents.now fork.left fork.right }
-    ensures { Closed (finds_in_sets sets.entry) queue.new result.left result.right }
-{
-    let n = sets.graves as usize;
-    let mut p = fork.left;
-    let mut q = fork.right;
-    let mut left = 0;
-    let mut right = n * n - 1;
-    queue[right] = q as u16;
-    while p != q {
-        if depths[q] <= depths[p] {
-            queue[left] = p as u16;
-            left += 1;
-            p = parents[p] as usize;
-        } else {
-            q = parents[q] as usize;
-            right -= 1;
-            queue[right] = q as u16;
-        }
-    }
-    Legs { left, right }
 }
 
 // Writes the pairs with these numbers, two bytes for each.
@@ -53,30 +25,51 @@ fn write(cells: &[u16], graves: u8, bytes: &mut [u8])
     ensures { pairs_of bytes.new ≡ map (numbered graves) cells.now }
 {
     let n = graves as u16;
-    for i in 0..cells.len() {
-        bytes[2 * i] = (cells[i] / n) as u8;
-        bytes[2 * i + 1] = (cells[i] % n) as u8;
+    for (i, cell) in cells.iter().enumerate() {
+        bytes[2 * i] = (*cell / n) as u8;
+        bytes[2 * i + 1] = (*cell % n) as u8;
     }
 }
 
-// Writes the ring of two clashing pairs of one colour, and tells how many pairs it has.
-pub fn read_back(
-    sets: Sets,
-    depths: &[u16],
-    parents: &[u16],
-    queue: &mut [u16],
-    fork: Fork,
-    ring: &mut [u8],
-) -> usize
-    requires few { (1 ≤ sets.graves) × (sets.graves ≤ 64) }
-    requires sized { Sized sets.graves depths.now parents.now queue.old }
-    requires forked { Forked (finds_in_sets sets) depths.now parents.now fork.left fork.right }
-    requires long { ring_for sets.graves ≤ length ring.old }
-    ensures { RingIn (finds_in_sets sets.entry) result ring.old ring.new }
-{
-    let Legs { left, right } = climb(sets, depths, parents, queue, fork);
-    let pairs = left + (queue.len() - right);
-    write(&queue[0..left], sets.graves, &mut ring[0..2 * left]);
-    write(&queue[right..], sets.graves, &mut ring[2 * left..2 * pairs]);
-    pairs
+impl Search<'_> {
+    // Goes up from both pairs, always from the deeper one, until they meet, and writes the pairs into the queue, which is no longer needed.
+    fn climb(&mut self, fork: Fork) -> Legs
+        requires { Forked (finds_in_sets self.old.sets) self.old.depths.now self.old.parents.now fork.left fork.right }
+        ensures closed { Closed (finds_in_sets self.old.sets) self.new.queue.now result.left result.right }
+        ensures same { SameCells self.old self.new }
+    {
+        let mut p = fork.left;
+        let mut q = fork.right;
+        let mut left = 0;
+        let mut right = self.queue.len() - 1;
+        self.queue[right] = q as u16;
+        while p != q {
+            if self.depths[q] <= self.depths[p] {
+                self.queue[left] = p as u16;
+                left += 1;
+                p = self.parents[p] as usize;
+            } else {
+                q = self.parents[q] as usize;
+                right -= 1;
+                self.queue[right] = q as u16;
+            }
+        }
+        Legs { left, right }
+    }
+
+    // Writes the ring of two clashing pairs of one colour, and tells how many pairs it has.
+    pub fn read_back(&mut self, fork: Fork, ring: &mut [u8]) -> usize
+        requires forked { Forked (finds_in_sets self.old.sets) self.old.depths.now self.old.parents.now fork.left fork.right }
+        requires long { ring_for self.old.sets.graves ≤ length ring.old }
+        ensures ring { RingIn (finds_in_sets self.old.sets) result ring.old ring.new }
+        ensures same { SameCells self.old self.new }
+    {
+        let graves = self.sets.graves;
+        let Legs { left, right } = self.climb(fork);
+        let queue = &mut *self.queue;
+        let pairs = left + (queue.len() - right);
+        write(&queue[0..left], graves, &mut ring[0..2 * left]);
+        write(&queue[right..], graves, &mut ring[2 * left..2 * pairs]);
+        pairs
+    }
 }

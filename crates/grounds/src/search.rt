@@ -1,81 +1,107 @@
 // The search among the pairs of graves, in lent cells: from pair to clashing pair, the ones seen first going first.
-ghost use Rattle.std.specs.Prelude.{◌≡◌, ℕ, ◌<◌, ◌≤◌, length, slice_index};
+ghost use Rattle.std.specs.Prelude.{◌≡◌, ◌*◌, ◌≤◌, length, slice_index};
 ghost use Rattle.grounds.specs.Neighbours.{finds_in_sets};
-ghost use Rattle.grounds.specs.Notes.{Entered};
-ghost use Rattle.grounds.specs.Searching.{Sized, Searched};
 
-use crate::neighbours::{at_work, neighbour};
 use crate::sets::Sets;
 
 // Two clashing pairs of one colour, by their cells.
-#[derive(Clone, Copy, Drop)]
+#[derive(Clone, Copy, PartialEq, Eq, Debug, Drop)]
 pub struct Fork {
     pub left: usize,
     pub right: usize,
 }
 
-// Notes a pair that was not seen: its depth, counted from 1, its parent, and its place at the end of the queue.
-fn enter(
-    depths: &mut [u16],
-    parents: &mut [u16],
-    queue: &mut [u16],
-    tail: usize,
-    cell: usize,
-    parent: usize,
-    depth: u16,
-)
-    requires within { (cell < length depths.old) × ((cell < length parents.old) × (tail < length queue.old)) }
-    requires few { (cell < 65536) × (parent < 65536) }
-    ensures { Entered cell parent depth tail depths.old parents.old queue.old depths.new parents.new queue.new }
-{
-    depths[cell] = depth;
-    parents[cell] = parent as u16;
-    queue[tail] = cell as u16;
+// A search in a table: a cell of each sort for each pair, and how many pairs stand in the queue.
+#[derive(Drop)]
+pub struct Search<'a> {
+    pub sets: Sets<'a>,
+    pub depths: &'a mut [u16],
+    pub parents: &'a mut [u16],
+    pub queue: &'a mut [u16],
+    pub tail: usize,
+    pub ghost for_depths: { length depths.now ≡ sets.graves * sets.graves },
+    pub ghost for_parents: { length parents.now ≡ sets.graves * sets.graves },
+    pub ghost for_queue: { length queue.now ≡ sets.graves * sets.graves },
+    pub ghost few: { sets.graves * sets.graves ≤ 4096 },
 }
 
-// Colours the pairs: from each pair that is not seen all pairs that clash with a seen one get the other colour, which is whether the depth is odd.
-// Two clashing pairs of one colour end the search.
-pub fn search(
-    sets: Sets,
-    depths: &mut [u16],
-    parents: &mut [u16],
-    queue: &mut [u16],
-) -> Option<Fork>
-    requires few { (1 ≤ sets.graves) × (sets.graves ≤ 64) }
-    requires sized { Sized sets.graves depths.old parents.old queue.old }
-    requires clear { (i : ℕ) → i < length depths.old → slice_index depths.old i ≡ 0 }
-    ensures { Searched (finds_in_sets sets.entry) depths.new parents.new result }
-{
-    let n = sets.graves as usize;
-    let mut found = None;
-    let mut head = 0;
-    let mut tail = 0;
-    'search: for seed in 0..n * n {
-        if seed / n == seed % n || depths[seed] != 0 {
-            continue;
-        }
-        enter(depths, parents, queue, tail, seed, seed, 1);
-        tail += 1;
-        while head < tail {
-            let work = at_work(sets, queue[head] as usize);
-            for place in 0..2 * n {
-                let Some(other) = neighbour(sets, work, place) else {
-                    continue;
-                };
-                if depths[other] == 0 {
-                    let depth = depths[work.cell] + 1;
-                    enter(depths, parents, queue, tail, other, work.cell, depth);
-                    tail += 1;
-                } else if depths[other] % 2 == depths[work.cell] % 2 {
-                    found = Some(Fork {
-                        left: work.cell,
-                        right: other,
-                    });
-                    break 'search;
-                }
-            }
-            head += 1;
-        }
+impl Search<'_> {
+    ghost use Rattle.grounds.specs.Searching.{SameCells, Blank, IsCell, Entered, Met, Searched};
+
+    // Clears the cells.
+    pub fn clear(&mut self)
+        ensures blank { Blank self.old.sets.graves self.new }
+        ensures same { SameCells self.old self.new }
+    {
+        self.depths.fill(0);
+        self.parents.fill(0);
+        self.queue.fill(0);
+        self.tail = 0;
     }
-    found
+
+    // Notes a pair that was not seen, one deeper than its parent. A seed is its own parent, so that its depth is 1.
+    fn enter(&mut self, cell: usize, parent: usize)
+        requires known { IsCell self.old cell × IsCell self.old parent × IsCell self.old self.old.tail }
+        requires shallow { slice_index self.old.depths.now parent ≤ self.old.tail }
+        ensures entered { Entered cell parent self.old self.new }
+        ensures same { SameCells self.old self.new }
+    {
+        self.depths[cell] = self.depths[parent] + 1;
+        self.parents[cell] = parent as u16;
+        self.queue[self.tail] = cell as u16;
+        self.tail += 1;
+    }
+
+    // Meets a pair that clashes with the one at work, and notes it if it was not seen; or tells that both have one colour.
+    fn meet(&mut self, cell: usize, other: usize) -> Option<Fork>
+        requires known { IsCell self.old cell × IsCell self.old other × IsCell self.old self.old.tail }
+        requires shallow { slice_index self.old.depths.now cell ≤ self.old.tail }
+        ensures met { Met cell other self.old self.new result }
+        ensures same { SameCells self.old self.new }
+    {
+        if self.depths[other] == 0 {
+            self.enter(other, cell);
+            return None;
+        }
+        if self.depths[other] % 2 != self.depths[cell] % 2 {
+            return None;
+        }
+        Some(Fork {
+            left: cell,
+            right: other,
+        })
+    }
+
+    // Colours the pairs: from each pair that is not seen all pairs that clash with a seen one get the other colour, which is whether the depth is odd.
+    // Two clashing pairs of one colour end the search.
+    pub fn find_fork(&mut self) -> Option<Fork>
+        requires blank { Blank self.old.sets.graves self.old }
+        ensures found { Searched (finds_in_sets self.old.sets) self.new result }
+        ensures same { SameCells self.old self.new }
+    {
+        let sets = self.sets;
+        let n = sets.graves as usize;
+        let mut found = None;
+        let mut head = 0;
+        'search: for seed in 0..n * n {
+            if seed / n == seed % n || self.depths[seed] != 0 {
+                continue;
+            }
+            self.enter(seed, seed);
+            while head < self.tail {
+                let work = sets.at_work(self.queue[head] as usize);
+                for place in 0..2 * n {
+                    let Some(other) = sets.neighbour(work, place) else {
+                        continue;
+                    };
+                    if let Some(fork) = self.meet(work.cell, other) {
+                        found = Some(fork);
+                        break 'search;
+                    }
+                }
+                head += 1;
+            }
+        }
+        found
+    }
 }

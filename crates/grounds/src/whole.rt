@@ -2,6 +2,7 @@
 ghost use Rattle.grounds.specs.Whole.{memory_of, Whole};
 
 use crate::finding::find_ring;
+use crate::notebook::Notebook;
 use crate::outcome::Outcome;
 use seriation::built::Built;
 use seriation::growth::grow;
@@ -40,8 +41,12 @@ pub fn seriate(
     match grow(table.graves, &kinds[0..many], parents, sorts, places, sets) {
         Built::Tree { root, count } => Ok(Outcome::Tree { root, count }),
         Built::NoOrder { .. } => {
-            let Some(pairs) = find_ring(&kinds[0..many], table.graves, depths, origins, queue, ring)
-            else {
+            let mut notes = Notebook {
+                depths,
+                parents: origins,
+                queue,
+            };
+            let Some(pairs) = find_ring(&kinds[0..many], table.graves, &mut notes, ring) else {
                 unreachable()
             };
             Ok(Outcome::Ground { pairs })

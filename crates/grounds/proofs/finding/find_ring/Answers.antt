@@ -5,7 +5,6 @@ use Rattle.grounds.proofs.finding.find_ring.Goals as goal
 
 pub find-requires : goal.find-requires
 find-requires c = record {
-  few = c.requires.few;
   sized = record {
     for_depths = search (rules, places);
     for_parents = search (rules, places);

@@ -1,4 +1,4 @@
-use Rattle.std.proofs.Common.{refl, inl, arith}
+use Rattle.std.proofs.Common.{refl, inl, arith, rules}
 use Rattle.tables.specs.Room.{branches_for, colours_for, ring_for}
 use Rattle.grounds.proofs.Answering.{room_for, same_finds, tree_of, ground_of, sets_of_file, taken_room, stages}
 use Rattle.grounds.proofs.whole.seriate.Goals as goal
@@ -32,7 +32,7 @@ returns-in-Some c =
     let file = c.args.file.now in let table = c.in_ok-table.table in (
       taken_room file c.min-3.result c.min-5.result _ _ _ _ (omega arith) (omega arith) t.0,
       ground_of _ _ _ _ _ _ (same_finds file table c.kind_sets-many.result c.kind_sets-many.new.sets t.1 k.finds) w r.found
-          (record { depths = r.depths_clear; origins = r.parents_clear; queue = r.queue_clear }),
+          (record { depths = search rules; origins = search rules; queue = search rules }),
       sets_of_file file table c.kind_sets-many.result _ _ t.1 k.count k.written k.rest,
       stages file table t.1,
     )
