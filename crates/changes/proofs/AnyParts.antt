@@ -21,8 +21,8 @@ use Rattle.trees.proofs.Cells.{parts_len}
 use Rattle.trees.proofs.Sets.{same_set, sound_kids}
 use Rattle.trees.proofs.Standing.{kids_size}
 use Rattle.arrayvec.specs.ArrayVec.{ArrayVec, array_vec_len}
-use Rattle.changes.specs.declared.choose.Share.{Share}
-use Rattle.changes.specs.declared.choose.Share.TheVariants.{Empty, Partial, Full}
+use Rattle.changes.specs.declared.shares.Share.{Share}
+use Rattle.changes.specs.declared.shares.Share.TheVariants.{Empty, Partial, Full}
 use Rattle.changes.specs.declared.draft.Spot.{Spot}
 use Rattle.changes.specs.declared.opening.Layout.{Layout}
 use Rattle.changes.specs.Bunches.{AllStand, weight}

@@ -16,7 +16,7 @@ use Rattle.trees.proofs.Allowing.{sizes_plus, goods_len}
 use Rattle.trees.proofs.Standing.{part_size}
 use Rattle.trees.proofs.Sets.{sound_kids, sounds_cut}
 use Rattle.arrayvec.specs.ArrayVec.{ArrayVec}
-use Rattle.changes.specs.declared.choose.Share.TheVariants.{Partial}
+use Rattle.changes.specs.declared.shares.Share.TheVariants.{Partial}
 use Rattle.changes.specs.declared.draft.Spot.{Spot}
 use Rattle.changes.specs.declared.opening.Layout.{Layout}
 use Rattle.changes.specs.Bunches.{AllStand, weight}

@@ -16,9 +16,10 @@ use Rattle.trees.specs.declared.rows.View.{View}
 use Rattle.trees.proofs.Cells.{parts_len, parts_rev}
 use Rattle.trees.proofs.Sets.{sound_kids, sounds_cut}
 use Rattle.arrayvec.specs.ArrayVec.{ArrayVec, array_vec_len}
-use Rattle.changes.specs.declared.choose.Share.{Share}
-use Rattle.changes.specs.declared.choose.Share.TheVariants.{Empty, Partial, Full}
+use Rattle.changes.specs.declared.shares.Share.{Share}
+use Rattle.changes.specs.declared.shares.Share.TheVariants.{Empty, Partial, Full}
 use Rattle.changes.specs.declared.opening.Layout.{Layout}
+use Rattle.changes.specs.Bunches.{AllStand}
 use Rattle.changes.specs.Layouts.{Bunched, Picked, Apart, Lays, InSequence}
 use Rattle.changes.specs.Shares.{in_order}
 use Rattle.changes.proofs.Telling.{count_size, told, picked, ordered}
@@ -47,6 +48,11 @@ mixed_sounds {ts} {us} x s = record {
   once = λ g. let e = mixed_count (eqb g) true x in let o = s.once g in omega arith;
   small = λ g l. mixed_count (eqb g) true x ∙ s.small g l;
 }
+
+-- Parts of a tree may come the other way round.
+pub all_turned : {v : View} {n : ℕ} {cs : List ℕ} → AllStand v n cs → AllStand v n (reverse cs)
+all_turned {v} {n} {cs} s =
+    record { long = s.long; few = s.few; trees = revs s.trees; parts = parts_rev (seen v) n cs s.trees s.parts; sound = mixed_sounds (mixed_revs s.trees) s.sound }
 
 pub sel_sounds : (k : ℕ → Bool) (s : Status) (ts : Trees) → Sounds ts → Sounds (sel k s ts)
 sel_sounds k s ts h = go s

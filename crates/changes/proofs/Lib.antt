@@ -1,6 +1,8 @@
 pub mod Choosing
 pub mod Writing
 pub mod Fronts
+pub mod Having
+pub mod Through
 pub mod Standing
 pub mod Shifting
 pub mod Same

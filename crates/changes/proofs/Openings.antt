@@ -16,8 +16,8 @@ use Rattle.trees.specs.declared.rows.View.{View}
 use Rattle.trees.proofs.Allowing.{good_size, goods_len}
 use Rattle.trees.proofs.Cells.{parts_len}
 use Rattle.trees.proofs.Standing.{part_size}
-use Rattle.changes.specs.declared.choose.Share.{Share}
-use Rattle.changes.specs.declared.choose.Share.TheVariants.{Empty, Full}
+use Rattle.changes.specs.declared.shares.Share.{Share}
+use Rattle.changes.specs.declared.shares.Share.TheVariants.{Empty, Full}
 use Rattle.changes.specs.declared.draft.Spot.{Spot}
 use Rattle.changes.specs.Bunches.{AllStand, weight}
 use Rattle.changes.specs.Draft.{Kept}

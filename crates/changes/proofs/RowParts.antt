@@ -15,8 +15,8 @@ use Rattle.trees.proofs.Cells.{parts_len}
 use Rattle.trees.proofs.Sets.{sound_kids}
 use Rattle.trees.proofs.Standing.{part_size, kids_size}
 use Rattle.arrayvec.specs.ArrayVec.{ArrayVec}
-use Rattle.changes.specs.declared.choose.Share.{Share}
-use Rattle.changes.specs.declared.choose.Share.TheVariants.{Empty, Partial, Full}
+use Rattle.changes.specs.declared.shares.Share.{Share}
+use Rattle.changes.specs.declared.shares.Share.TheVariants.{Empty, Partial, Full}
 use Rattle.changes.specs.declared.draft.Spot.{Spot}
 use Rattle.changes.specs.Bunches.{AllStand, weight}
 use Rattle.changes.specs.Draft.{Kept}

@@ -1,5 +1,5 @@
 -- Lists of cells at which sound trees stand: what they weigh, and each of them.
-use Rattle.std.proofs.Common.{◌≡◌, ℕ, zero, suc, ◌+◌, ◌*◌, ◌<◌, ◌≤◌, List, [], ◌∷◌, length, get_or, take, refl, arith}
+use Rattle.std.proofs.Common.{◌≡◌, ℕ, zero, suc, ◌+◌, ◌*◌, ◌<◌, ◌≤◌, List, [], ◌∷◌, length, get_or, take, drop, refl, arith}
 use lib.Count.{ones}
 use Rattle.arrayvec.specs.ArrayVec.{ArrayVec}
 use Rattle.std.specs.List.{All}
@@ -18,7 +18,7 @@ use Rattle.changes.specs.Bunches.{AllStand, weight}
 use Rattle.changes.specs.Layouts.{Bunched}
 use Rattle.changes.specs.Shares.{union_of}
 use Rattle.changes.specs.Written.{Room, Wrote}
-use Rattle.changes.proofs.Fronts.{front, tree_at, front_size, front_goods, part_at, sound_at}
+use Rattle.changes.proofs.Fronts.{front, back, parts_front, parts_back, sounds_front, sounds_back, tree_at, front_size, front_goods, part_at, sound_at}
 
 pub parts_weight : (v : View) (n : ℕ) (cs : List ℕ) (ts : Trees) → Parts (seen v) n cs ts → Sounds ts → weight v.sets.now cs ≡ sizes ts
 parts_weight v n [] none p s = refl
@@ -54,6 +54,13 @@ stand_below v n cs s k d l = omega (arith, parts_below (seen v) n cs s.trees s.p
 pub stand_few : (v : View) (n : ℕ) (cs : List ℕ) → AllStand v n cs → length cs ≤ 64
 stand_few v n cs s = omega (arith, parts_len (seen v) n cs s.trees s.parts, few_branches s.trees s.sound)
 
+-- The first x of them, and those behind.
+pub all_front : {v : View} {n : ℕ} {cs : List ℕ} (x : ℕ) → AllStand v n cs → AllStand v n (take x cs)
+all_front {v} {n} {cs} x s = record { long = s.long; few = s.few; trees = front x s.trees; parts = parts_front (seen v) n cs s.trees x s.parts; sound = sounds_front x s.trees s.sound }
+
+pub all_behind : {v : View} {n : ℕ} {cs : List ℕ} (x : ℕ) → AllStand v n cs → AllStand v n (drop x cs)
+all_behind {v} {n} {cs} x s = record { long = s.long; few = s.few; trees = back x s.trees; parts = parts_back (seen v) n cs s.trees x s.parts; sound = sounds_back x s.trees s.sound }
+
 pub stand_at : (v : View) (n : ℕ) (cs : List ℕ) (x : ℕ) → AllStand v n cs → x < length cs → Stands v n (get_or cs x 0)
 stand_at v n cs x s l = record {
   long = s.long;
@@ -81,15 +88,6 @@ room_at v n cs x s l w r =
     let f = part_size (seen v) n (get_or cs x 0) (tree_at x ts) (part_at (seen v) n cs ts x s.parts l) (sound_at ts x s.sound (omega arith)) in
     let g = front_size x ts (omega arith) in
     room_after (front x ts) _ _ w (front_goods x ts s.sound.good) (omega arith) r
-
--- ---- the branches of a cell, listed in a bunch
-
-module _ (v : View) (n i : ℕ) (s : Stands v n i) (m : ℕ) (xs : List ℕ) (u : ArrayVec ℕ) (h : (t : Tree) → Part (seen v) n i t → Listed i m xs (kids t)) (e : u.items ≡ take m xs) where
-  pub branches_bunched : (t : Tree) → Part (seen v) n i t → Bunched v n u (kids t)
-  branches_bunched t p = rw (e, (h t p).front) (kids_parts (seen v) n i t p)
-
-  pub branches_stand : AllStand v n u.items
-  branches_stand = record { long = s.long; few = s.few; trees = kids s.tree; parts = branches_bunched s.tree s.part; sound = sound_kids s.tree s.sound }
 
 -- ---- groups
 

@@ -15,8 +15,8 @@ use Rattle.trees.specs.Rows.{seen}
 use Rattle.trees.specs.declared.rows.View.{View}
 use Rattle.finds.proofs.Bits.{bit_low}
 use Rattle.trees.proofs.Sets.{set_count, set_size, sounds_first, sounds_rest}
-use Rattle.changes.specs.declared.choose.Share.{Share}
-use Rattle.changes.specs.declared.choose.Share.TheVariants.{Empty, Partial, Full}
+use Rattle.changes.specs.declared.shares.Share.{Share}
+use Rattle.changes.specs.declared.shares.Share.TheVariants.{Empty, Partial, Full}
 use Rattle.changes.specs.Shares.{share, alike, has_share, goes_on, in_order}
 use Rattle.trees.proofs.Cells.{body_set}
 

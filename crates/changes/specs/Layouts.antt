@@ -7,8 +7,8 @@ use Rattle.pqtree.specs.Opening.{stuck, laid, ◌⊞◌, group, open_up, open_al
 use Rattle.trees.specs.Cells.{kids, Parts}
 use Rattle.trees.specs.Rows.{seen}
 use Rattle.trees.specs.declared.rows.View.{View}
-use Rattle.changes.specs.declared.choose.Share.{Share}
-use Rattle.changes.specs.declared.choose.Share.TheVariants.{Empty, Partial, Full}
+use Rattle.changes.specs.declared.shares.Share.{Share}
+use Rattle.changes.specs.declared.shares.Share.TheVariants.{Empty, Partial, Full}
 use Rattle.changes.specs.declared.opening.Layout.{Layout}
 use Rattle.changes.specs.Shares.{has_share, in_order}
 

@@ -6,3 +6,4 @@ pub mod Written
 pub mod Bunches
 pub mod Whole
 pub mod Layouts
+pub mod Parts

@@ -1,9 +1,9 @@
 -- What is read from the sets of cells: how much of a mask they have, and their union.
 use Rattle.std.specs.Prelude.{◌≡◌, ℕ, ◌<◌, ◌≤◌, Bool, true, false, cond, List, [], ◌∷◌, length, ◌==◌, ◌≢◌, Some, None, Option, bit_and, bit_or, count_ones, slice_index}
 use denote.Enum.Bare.{sameb}
-use Rattle.changes.specs.contracts.choose.Share.{the_type}
-use Rattle.changes.specs.declared.choose.Share.{Share}
-use Rattle.changes.specs.declared.choose.Share.TheVariants.{Empty, Partial, Full}
+use Rattle.changes.specs.contracts.shares.Share.{the_type}
+use Rattle.changes.specs.declared.shares.Share.{Share}
+use Rattle.changes.specs.declared.shares.Share.TheVariants.{Empty, Partial, Full}
 
 -- How much of the set s is in the mask m: nothing, all, or a part.
 abbrev pub share : ℕ → ℕ → Share

@@ -1,16 +1,16 @@
 // Rows of its own into which a changed tree is written before the lent rows change.
 ghost use Rattle.std.specs.Prelude.{◌≡◌, ◌+◌, ◌*◌, ◌<◌, count_ones, slice_index};
 ghost use Rattle.finds.specs.Trees.{Tree, Trees, none, more};
-ghost use Rattle.trees.specs.Cells.{Part, Parts};
-ghost use Rattle.trees.specs.Rows.{seen, Stands};
-ghost use Rattle.changes.specs.Bunches.{AllStand, weight};
+ghost use Rattle.trees.specs.Subtrees.{Is, set_at};
+ghost use Rattle.changes.specs.Bunches.{weight};
+ghost use Rattle.changes.specs.Parts.{Are};
 ghost use Rattle.changes.specs.Draft.{drafted, Kept};
 ghost use Rattle.changes.specs.Written.{first_in, Headed, Room, Wrote};
 ghost use Rattle.pqtree.specs.Opening.{group as as_one};
 
-use crate::choose::union;
-use trees::rows::{Sort, View};
-use trees::walk::next_after;
+use crate::parts::Parts;
+use trees::rows::Sort;
+use trees::subtree::Subtree;
 
 // The four rows of a tree under way: twice as many cells as a tree of 64 graves can have, so that a change that fails half-way stays within.
 #[derive(Clone, Copy, Drop)]
@@ -41,41 +41,40 @@ pub(crate) fn put(draft: &mut Draft, at: Spot, sort: u8, set: u64)
     draft.sets[at.cell] = set;
 }
 
-// Copies the part with its root in cell i to the spot; the spot behind it.
-pub(crate) fn copy(view: View, count: usize, i: usize, draft: &mut Draft, at: Spot) -> Spot
-    requires stands { Stands view count i }
-    requires room { Room at (2 * count_ones (slice_index view.sets.now i)) }
+// Copies the part to the spot; the spot behind it.
+pub(crate) fn copy(part: Subtree, draft: &mut Draft, at: Spot) -> Spot
+    requires { Room at (2 * count_ones (set_at part)) }
     ensures kept { Kept (drafted draft.old) (drafted draft.new) at.cell }
-    ensures copied { (t : Tree) → Part (seen view.entry) count i t → Wrote (drafted draft.new) at result (more t none) }
+    ensures copied { (t : Tree) → Is part.entry t → Wrote (drafted draft.new) at result (more t none) }
 {
-    let end = next_after(view, count, i);
-    put(draft, at, view.sorts[i], view.sets[i]);
-    for x in i + 1..end {
-        let parent = (view.parents[x] as usize - i + at.cell) as u8;
+    let Subtree { rows, root, .. } = part;
+    let end = part.end();
+    put(draft, at, rows.sorts[root], rows.sets[root]);
+    for x in root + 1..end {
+        let parent = (rows.parents[x] as usize - root + at.cell) as u8;
         let here = Spot {
-            cell: at.cell + (x - i),
+            cell: at.cell + (x - root),
             parent,
-            place: view.places[x],
+            place: rows.places[x],
         };
-        put(draft, here, view.sorts[x], view.sets[x]);
+        put(draft, here, rows.sorts[x], rows.sets[x]);
     }
     Spot {
-        cell: at.cell + (end - i),
+        cell: at.cell + (end - root),
         parent: at.parent,
         place: at.place + 1,
     }
 }
 
-// Copies the parts with their roots in these cells to the spot, one behind the other; the spot behind them.
-pub(crate) fn copies(view: View, count: usize, cells: &[u8], draft: &mut Draft, at: Spot) -> Spot
-    requires stand { AllStand view count cells.now }
-    requires room { Room at (2 * weight view.sets.now cells.now) }
+// Copies the parts to the spot, one behind the other; the spot behind them.
+pub(crate) fn copies(parts: Parts, draft: &mut Draft, at: Spot) -> Spot
+    requires { Room at (2 * weight parts.rows.sets.now parts.cells.now) }
     ensures kept { Kept (drafted draft.old) (drafted draft.new) at.cell }
-    ensures copied { (ts : Trees) → Parts (seen view.entry) count cells.now ts → Wrote (drafted draft.new) at result ts }
+    ensures copied { (ts : Trees) → Are parts.entry ts → Wrote (drafted draft.new) at result ts }
 {
     let mut next = at;
-    for cell in cells {
-        next = copy(view, count, *cell as usize, draft, next);
+    for part in parts {
+        next = copy(part, draft, next);
     }
     next
 }
@@ -92,18 +91,17 @@ pub(crate) fn inside(at: Spot) -> Spot
     }
 }
 
-// Copies the parts with their roots in these cells to the spot as one branch at most: of two or more a new one, in which they may stand in any order. The spot behind it.
-pub(crate) fn group(view: View, count: usize, cells: &[u8], draft: &mut Draft, at: Spot) -> Spot
-    requires stand { AllStand view count cells.now }
-    requires room { Room at (2 * weight view.sets.now cells.now + 1) }
+// Copies the parts to the spot as one branch at most: of two or more a new one, in which they may stand in any order. The spot behind it.
+pub(crate) fn group(parts: Parts, draft: &mut Draft, at: Spot) -> Spot
+    requires { Room at (2 * weight parts.rows.sets.now parts.cells.now + 1) }
     ensures kept { Kept (drafted draft.old) (drafted draft.new) at.cell }
-    ensures grouped { (ts : Trees) → Parts (seen view.entry) count cells.now ts → Wrote (drafted draft.new) at result (as_one ts) }
+    ensures grouped { (ts : Trees) → Are parts.entry ts → Wrote (drafted draft.new) at result (as_one ts) }
 {
-    if cells.len() < 2 {
-        return copies(view, count, cells, draft, at);
+    if parts.cells.len() < 2 {
+        return copies(parts, draft, at);
     }
-    put(draft, at, Sort::Any as u8, union(view.sets, cells));
-    let end = copies(view, count, cells, draft, inside(at));
+    put(draft, at, Sort::Any as u8, parts.union());
+    let end = copies(parts, draft, inside(at));
     Spot {
         cell: end.cell,
         parent: at.parent,

@@ -6,12 +6,12 @@ ghost use Rattle.finds.specs.Sets.{has};
 ghost use Rattle.finds.specs.Trees.{Tree};
 ghost use Rattle.pqtree.specs.Change.{change};
 ghost use Rattle.trees.specs.Cells.{Holds};
-ghost use Rattle.trees.specs.Rows.{seen, Long, Stands};
+ghost use Rattle.trees.specs.Rows.{seen};
 
 use crate::draft::{Draft, Spot, put};
 use crate::templates::rebuild;
-use trees::rows::View;
-use trees::walk::next_after;
+use trees::subtree::Subtree;
+use trees::whole::WholeTree;
 
 // Which of the sets is the last that has so many graves of the kind.
 fn last_with(sets: &[u64], kind: u64, many: u32) -> Option<usize>
@@ -21,40 +21,36 @@ fn last_with(sets: &[u64], kind: u64, many: u32) -> Option<usize>
         .rposition(|set| (*set & kind).count_ones() == many)
 }
 
-// The last of count cells that has all graves of the kind that the tree has: the root of the smallest part that holds them all.
-fn smallest(view: View, count: usize, kind: u64) -> usize
-    requires long { Long view count }
-    requires some { 0 < count }
-    ensures { Smallest (seen view.entry) count kind result }
+// The last cell that has all graves of the kind that the tree has: the root of the smallest part that holds them all.
+fn smallest(tree: WholeTree, kind: u64) -> usize
+    ensures { Smallest (seen tree.entry.rows) tree.entry.count kind result }
 {
-    let all = (view.sets[0] & kind).count_ones();
-    last_with(&view.sets[..count], kind, all).unwrap()
+    let all = (tree.rows.sets[0] & kind).count_ones();
+    last_with(&tree.rows.sets[..tree.count], kind, all).unwrap()
 }
 
-// The cells below the cell r as they are.
-fn before(view: View, r: usize, draft: &mut Draft)
-    requires long { Long view r }
-    requires room { r ≤ 256 }
-    ensures { Kept (seen view.entry) (drafted draft.new) r }
+// The cells before the part as they are.
+fn before(part: Subtree, draft: &mut Draft)
+    ensures { Kept (seen part.entry.rows) (drafted draft.new) part.entry.root }
 {
-    draft.parents[0..r].copy_from_slice(&view.parents[0..r]);
-    draft.sorts[0..r].copy_from_slice(&view.sorts[0..r]);
-    draft.places[0..r].copy_from_slice(&view.places[0..r]);
-    draft.sets[0..r].copy_from_slice(&view.sets[0..r]);
+    let Subtree { rows, root, .. } = part;
+    draft.parents[..root].copy_from_slice(&rows.parents[..root]);
+    draft.sorts[..root].copy_from_slice(&rows.sorts[..root]);
+    draft.places[..root].copy_from_slice(&rows.places[..root]);
+    draft.sets[..root].copy_from_slice(&rows.sets[..root]);
 }
 
-// The cells from the cell end on, moved to the cell at; the number of cells then.
-fn behind(view: View, count: usize, end: usize, draft: &mut Draft, at: usize) -> usize
-    requires long { Long view count }
-    requires ordered { end ≤ count }
-    requires room { at + (count - end) ≤ 256 }
-    requires parents { (x : ℕ) → end ≤ x → x < count → (seen view).parent x < count }
-    ensures cells { result ≡ at + (count - end) }
+// The cells of the tree from the cell end on, moved to the cell at; the number of cells then.
+fn behind(tree: WholeTree, end: usize, draft: &mut Draft, at: usize) -> usize
+    requires ordered { end ≤ tree.count }
+    requires room { at + (tree.count - end) ≤ 256 }
+    ensures cells { result ≡ at + (tree.entry.count - end) }
     ensures kept { Kept (drafted draft.old) (drafted draft.new) at }
-    ensures shifted { Shifted (seen view.entry) (drafted draft.new) end count at }
+    ensures shifted { Shifted (seen tree.entry.rows) (drafted draft.new) end tree.entry.count at }
 {
+    let WholeTree { rows, count } = tree;
     for x in end..count {
-        let parent = view.parents[x];
+        let parent = rows.parents[x];
         let moved = if (parent as usize) < end {
             parent
         } else {
@@ -63,27 +59,29 @@ fn behind(view: View, count: usize, end: usize, draft: &mut Draft, at: usize) ->
         let here = Spot {
             cell: at + (x - end),
             parent: moved,
-            place: view.places[x],
+            place: rows.places[x],
         };
-        put(draft, here, view.sorts[x], view.sets[x]);
+        put(draft, here, rows.sorts[x], rows.sets[x]);
     }
     at + (count - end)
 }
 
 // Writes the tree changed for the kind into the draft: the number of its cells, or None where no order fits.
-pub(crate) fn redraw(view: View, count: usize, kind: u64, draft: &mut Draft) -> Option<usize>
-    requires stands { Stands view count 0 }
-    requires two { 2 ≤ having (seen view) kind 0 }
-    ensures { (t : Tree) → Holds (seen view.entry) count t → Drawn (drafted draft.new) result (change (has kind) t) }
+pub(crate) fn redraw(tree: WholeTree, kind: u64, draft: &mut Draft) -> Option<usize>
+    requires { 2 ≤ having (seen tree.rows) kind 0 }
+    ensures { (t : Tree) → Holds (seen tree.entry.rows) tree.entry.count t → Drawn (drafted draft.new) result (change (has kind) t) }
 {
-    let part = smallest(view, count, kind);
-    let end = next_after(view, count, part);
-    before(view, part, draft);
-    let spot = Spot {
-        cell: part,
-        parent: view.parents[part],
-        place: view.places[part],
+    let part = Subtree {
+        rows: tree.rows,
+        count: tree.count,
+        root: smallest(tree, kind),
     };
-    let at = rebuild(view, count, part, kind, draft, spot)?;
-    Some(behind(view, count, end, draft, at))
+    before(part, draft);
+    let spot = Spot {
+        cell: part.root,
+        parent: part.rows.parents[part.root],
+        place: part.rows.places[part.root],
+    };
+    let at = rebuild(part, kind, draft, spot)?;
+    Some(behind(tree, part.end(), draft, at))
 }

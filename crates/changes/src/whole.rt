@@ -2,31 +2,27 @@
 ghost use Rattle.std.specs.Prelude.{◌≡◌, ◌<◌, ◌≤◌, true, false, bit_and, count_ones};
 ghost use Rattle.changes.specs.Draft.{drafted, Kept};
 ghost use Rattle.changes.specs.Whole.{Holding, Changes};
-ghost use Rattle.trees.specs.Cells.{held, lent, shortest};
+ghost use Rattle.trees.specs.Cells.{held, shortest};
+ghost use Rattle.trees.specs.Rows.{lent_rows, SameSlices};
 ghost use Rattle.trees.specs.Starting.{SameFrom};
 
 use crate::draft::Draft;
 use crate::splice::redraw;
-use trees::rows::View;
+use trees::rows::Rows;
+use trees::whole::WholeTree;
 
 // Writes the first cells of the draft into the rows.
-fn back(
-    draft: &Draft,
-    count: usize,
-    parents: &mut [u8],
-    sorts: &mut [u8],
-    places: &mut [u8],
-    sets: &mut [u64],
-)
+fn back(draft: &Draft, count: usize, rows: &mut Rows)
     requires room { count ≤ 256 }
-    requires long { count ≤ shortest (lent parents.old sorts.old places.old sets.old) }
-    ensures kept { Kept (drafted draft.now) (held (lent parents.new sorts.new places.new sets.new)) count }
-    ensures rest { SameFrom count (lent parents.old sorts.old places.old sets.old) (lent parents.new sorts.new places.new sets.new) }
+    requires long { count ≤ shortest (lent_rows rows.old) }
+    ensures kept { Kept (drafted draft.now) (held (lent_rows rows.new)) count }
+    ensures rest { SameFrom count (lent_rows rows.old) (lent_rows rows.new) }
+    ensures same { SameSlices rows.old rows.new }
 {
-    parents[0..count].copy_from_slice(&draft.parents[0..count]);
-    sorts[0..count].copy_from_slice(&draft.sorts[0..count]);
-    places[0..count].copy_from_slice(&draft.places[0..count]);
-    sets[0..count].copy_from_slice(&draft.sets[0..count]);
+    rows.parents[..count].copy_from_slice(&draft.parents[..count]);
+    rows.sorts[..count].copy_from_slice(&draft.sorts[..count]);
+    rows.places[..count].copy_from_slice(&draft.places[..count]);
+    rows.sets[..count].copy_from_slice(&draft.sets[..count]);
 }
 
 // Whether the kind lay in fewer than two of these graves, so that it ties nothing together.
@@ -39,18 +35,12 @@ fn ties_nothing(graves: u64, kind: u64) -> bool
 
 // Changes the tree in the first cells of the rows for one kind more, which is the set of the graves in which it lay: the rows hold the tree of those orders that do not tear the kind, in so many cells; or are as they were where there is none, and the answer is None.
 // A kind that lay in fewer than two graves of the tree changes nothing; graves that the tree does not have make no difference.
-pub fn change(
-    parents: &mut [u8],
-    sorts: &mut [u8],
-    places: &mut [u8],
-    sets: &mut [u64],
-    count: usize,
-    kind: u64,
-) -> Option<usize>
-    requires { Holding (lent parents.old sorts.old places.old sets.old) count }
-    ensures { Changes (lent parents.old sorts.old places.old sets.old) (lent parents.new sorts.new places.new sets.new) count kind result }
+pub fn change(rows: &mut Rows, count: usize, kind: u64) -> Option<usize>
+    requires { Holding (lent_rows rows.old) count }
+    ensures changes { Changes (lent_rows rows.old) (lent_rows rows.new) count kind result }
+    ensures same { SameSlices rows.old rows.new }
 {
-    if ties_nothing(sets[0], kind) {
+    if ties_nothing(rows.sets[0], kind) {
         return Some(count);
     }
     let mut draft = Draft {
@@ -59,15 +49,11 @@ pub fn change(
         places: [0; 256],
         sets: [0; 256],
     };
-    let view = View {
-        parents,
-        sorts,
-        places,
-        sets,
+    let tree = WholeTree {
+        rows: rows.view(),
+        count,
     };
-    let Some(count) = redraw(view, count, kind, &mut draft) else {
-        return None;
-    };
-    back(&draft, count, parents, sorts, places, sets);
+    let count = redraw(tree, kind, &mut draft)?;
+    back(&draft, count, rows);
     Some(count)
 }

@@ -12,5 +12,6 @@ pub mod Checking
 pub mod Leaves
 pub mod Finding
 pub mod Ending
+pub mod Sorts
 pub mod Stepping
 pub mod Roots

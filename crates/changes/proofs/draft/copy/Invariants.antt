@@ -8,5 +8,5 @@ use Rattle.changes.proofs.draft.copy.Given as goal
 abbrev pub invariant-loop-x : goal.invariant-loop-x
 invariant-loop-x l =
     Kept (drafted l.initial.draft) (drafted l.draft) l.at.cell
-    × Headed (drafted l.draft) l.at ((seen l.view).sort l.i) ((seen l.view).set l.i)
-    × Moved (seen l.view) (drafted l.draft) l.i l.at.cell (l.i + 1) l.x
+    × Headed (drafted l.draft) l.at ((seen l.part.rows).sort l.part.root) ((seen l.part.rows).set l.part.root)
+    × Moved (seen l.part.rows) (drafted l.draft) l.part.root l.at.cell (l.part.root + 1) l.x

@@ -1,115 +1,151 @@
-use Rattle.std.proofs.Common.{sym, ap, ◌∙◌, arith}
-use Rattle.changes.specs.Written.{laid_at, not_laid}
+use lib.Count.{ones}
+use Rattle.std.proofs.Common.{ℕ, ◌+◌, ◌-◌, ◌*◌, ◌<◌, List, length, ap, ◌∙◌, sym, Some, None, Option, arith}
+use Rattle.finds.specs.Trees.{Trees}
+use Rattle.pqtree.specs.Opening.{group as as_one}
+use Rattle.trees.specs.Cells as cells
+use Rattle.trees.specs.Cells.{Cells}
+use Rattle.trees.specs.Rows.{seen}
+use Rattle.trees.specs.declared.rows.View.{View}
+use Rattle.trees.proofs.Finding.{had_standing}
+use Rattle.changes.specs.Bunches.{weight}
+use Rattle.changes.specs.Draft.{drafted}
+use Rattle.changes.specs.Parts.{Are, Lying}
+use Rattle.changes.specs.Shares.{share}
+use Rattle.changes.specs.Written.{Room, Wrote, laid_at, not_laid}
+use Rattle.changes.specs.declared.draft.Spot.{Spot}
+use Rattle.changes.specs.declared.parts.Parts.{Parts}
+use Rattle.changes.proofs.Having.{had_all}
 use Rattle.changes.proofs.Laying.{part_told, first_stand, middle_stand, last_stand, room_first, room_middle, room_last, lighter, kept_first, kept_all, laid_open, laid_not}
-use Rattle.changes.proofs.Openings.{stays_whole, loop_more, loop_end, loop_stuck, loop_kept, room_next, each_lighter}
-use Rattle.changes.proofs.Standing.{stand_at}
+use Rattle.changes.proofs.Openings.{Found, FoundAll, stays_whole, loop_more, loop_end, loop_stuck, loop_kept, room_next, each_lighter}
 use Rattle.changes.proofs.Telling.{told, cell_tells}
+use Rattle.changes.proofs.Through.{through_start, through_some, through_at, through_more, through_end, to_part, from_part, to_parts, from_parts, at_set}
 use Rattle.changes.proofs.Writing.{kept_refl, wrote_none}
 use Rattle.changes.proofs.opening.+laying.Goals as goal
 
-pub lay_each-loop-cell-init : goal.lay_each-loop-cell-init
-lay_each-loop-cell-init t c = (kept_refl _ _, λ k b w ts p q. laid_at (wrote_none _ _))
+-- ---- parts one behind the other
+
+pub lay_each-loop-part-init : goal.lay_each-loop-part-init
+lay_each-loop-part-init t c = (kept_refl _ _, (0, through_start c.into_iter-part-iterator.ensures.into_iter_gives, λ k b w ts p q. laid_at (wrote_none _ _)))
 
 pub lay_each-lay_open-requires : goal.lay_each-lay_open-requires
 lay_each-lay_open-requires t c =
-    let s = c.requires.stand in (
-      omega (arith, each_lighter c.args.view _ c.args.mask _ _ s c.loop-cell-test.true, c.decreases),
+    let s = had_all c.args.parts.stand in
+    let i = c.loop-part.invariant.1 in
+    let a = through_at i.1 c.in-Some.ensures.steps in
+    let l = through_some i.1 c.in-Some.ensures.steps in (
+      omega (arith, each_lighter c.args.parts.rows _ c.args.mask _ _ s l, c.decreases, ap ones (at_set a)),
+      rw (at_set a) (room_next c.args.parts.rows _ _ _ _ s i.2 l c.requires),
+    )
+
+pub lay_each-returns-in_err-next-clause-kept : goal.lay_each-returns-in_err-next-clause-kept
+lay_each-returns-in_err-next-clause-kept t c = loop_kept c.args.parts.rows _ _ _ _ (had_all c.args.parts.stand) c.loop-part.invariant.1.2 c.loop-part.invariant.0 c.in_err-next.ensures.kept
+
+pub lay_each-returns-in_err-next-clause-opened : goal.lay_each-returns-in_err-next-clause-opened
+lay_each-returns-in_err-next-clause-opened t c =
+    let i = c.loop-part.invariant.1 in
+    let a = through_at i.1 c.in-Some.ensures.steps in
+    rw c.from_residual.ensures
+    (loop_stuck c.args.parts.rows _ c.args.mask _ _ (through_some i.1 c.in-Some.ensures.steps)
+    (from_part (λ (v : View) (n r : ℕ). Found v n c.args.mask r (drafted c.lay_open.new.draft) c.loop-part.next None) a c.in_err-next.ensures.opened))
+
+pub lay_each-loop-part-preserved : goal.lay_each-loop-part-preserved
+lay_each-loop-part-preserved t c =
+    let i = c.loop-part.invariant.1 in
+    let a = through_at i.1 c.in-Some.ensures.steps in (
+      loop_kept c.args.parts.rows _ _ _ _ (had_all c.args.parts.stand) i.2 c.loop-part.invariant.0 c.in_ok-next.ensures.kept,
       (
-        stand_at _ _ _ _ s c.loop-cell-test.true,
-        room_next c.args.view _ _ _ _ s c.loop-cell.invariant.1 c.loop-cell-test.true c.requires.room,
+        _,
+        through_more i.1 c.in-Some.ensures.steps,
+        loop_more c.args.parts.rows _ c.args.mask _ _ (through_some i.1 c.in-Some.ensures.steps) i.2 c.in_ok-next.ensures.kept
+        (from_part (λ (v : View) (n r : ℕ). Found v n c.args.mask r (drafted c.lay_open.new.draft) c.loop-part.next (Some c.in_ok-next.next)) a c.in_ok-next.ensures.opened),
       ),
     )
 
-pub lay_each-returns-in_default : goal.lay_each-returns-in_default
-lay_each-returns-in_default t c = record {
-  kept = loop_kept c.args.view _ _ _ _ c.requires.stand c.loop-cell.invariant.1 c.loop-cell.invariant.0 c.in_default.ensures.kept;
-  opened = loop_stuck c.args.view _ _ _ _ c.loop-cell-test.true c.in_default.ensures.opened;
-}
+pub lay_each-returns-clause-opened : goal.lay_each-returns-clause-opened
+lay_each-returns-clause-opened t c =
+    let i = c.loop-part.invariant.1 in loop_end c.args.parts.rows _ _ _ _ (omega (arith, through_end i.1 c.in-None.ensures.steps.0)) i.2
 
-pub lay_each-loop-cell-preserved : goal.lay_each-loop-cell-preserved
-lay_each-loop-cell-preserved t c = (
-  loop_kept c.args.view _ _ _ _ c.requires.stand c.loop-cell.invariant.1 c.loop-cell.invariant.0 c.in-Some.ensures.kept,
-  loop_more c.args.view _ _ _ _ c.loop-cell-test.true c.loop-cell.invariant.1 c.in-Some.ensures.kept c.in-Some.ensures.opened,
-)
-
-pub lay_each-returns : goal.lay_each-returns
-lay_each-returns t c = record {
-  kept = c.loop-cell.invariant.0;
-  opened = loop_end c.args.view _ _ _ _ c.loop-cell-test.false c.loop-cell.invariant.1;
-}
+-- ---- one part
 
 pub lay_open-returns-in-Empty : goal.lay_open-returns-in-Empty
 lay_open-returns-in-Empty t c = record {
   kept = c.copy.ensures.kept;
   opened = λ k b w u p s.
-      rw (stays_whole k b u c.share_of.result c.in-Empty.is (cell_tells k b _ w c.args.view _ _ u p s ∙ sym (ap (told b) c.share_of.ensures))) (laid_at (c.copy.ensures.copied u p));
+      rw (stays_whole k b u c.share_of.result c.in-Empty.is
+      (cell_tells k b _ w c.args.part.rows _ _ u p s ∙ ap (λ (x : ℕ). told b (share x c.args.mask)) (sym c.graves.ensures) ∙ sym (ap (told b) c.share_of.ensures)))
+      (laid_at (c.copy.ensures.copied u p));
 }
 
-pub lay_open-returns-in_default : goal.lay_open-returns-in_default
-lay_open-returns-in_default t c = record {
-  kept = kept_refl _ _;
-  opened = λ k b w u p s. rw (c.in_default.ensures k b w u p s (part_told c.args.view _ _ _ k b w c.in-Partial.ensures u p s)) not_laid;
-}
+pub lay_open-returns-in_err-layout-clause-opened : goal.lay_open-returns-in_err-layout-clause-opened
+lay_open-returns-in_err-layout-clause-opened t c = λ k b w u p s. rw c.from_residual.ensures
+    (rw (c.in_err-layout.ensures k b w u p s (part_told c.args.part.rows _ _ _ k b w (c.in-Partial.ensures ∙ ap (λ (x : ℕ). share x c.args.mask) c.graves.ensures) u p s)) not_laid)
+
+pub lay_open-of-requires : goal.lay_open-of-requires
+lay_open-of-requires t c =
+    first_stand c.args.part.rows _ _ _ (c.in-Partial.ensures ∙ ap (λ (x : ℕ). share x c.args.mask) c.graves.ensures) c.in_ok-layout.layout c.in_ok-layout.ensures (had_standing c.args.part.stands) _ c.as_slice.ensures.value
 
 pub lay_open-group-next-requires : goal.lay_open-group-next-requires
 lay_open-group-next-requires t c =
-    let l = c.in-Some.layout in
-    let s = c.requires.stands in
-    let e = c.in-Partial.ensures in
-    let h = c.in-Some.ensures in
-    let f = c.as_slice.ensures.value in
-    record { stand = first_stand c.args.view _ _ _ e l h s _ f; room = room_first c.args.view _ _ _ e l h s _ f c.requires.room }
+    let e = c.in-Partial.ensures ∙ ap (λ (x : ℕ). share x c.args.mask) c.graves.ensures in
+    to_parts (λ (v : View) (n : ℕ) (cs : List ℕ). Room c.args.at (2 * weight v.sets.now cs + 1)) c.of.ensures
+    (room_first c.args.part.rows _ _ _ e c.in_ok-layout.layout c.in_ok-layout.ensures (had_standing c.args.part.stands) _ c.as_slice.ensures.value c.requires)
+
+-- What a call says of the parts that were passed to it, said of their cells.
+grouped : {v : View} {n : ℕ} {cs : List ℕ} {p : Parts} {R : Cells} {at next : Spot} → Lying v n cs p → ((ts : Trees) → Are p ts → Wrote R at next (as_one ts)) → (ts : Trees) → cells.Parts (seen v) n cs ts → Wrote R at next (as_one ts)
+grouped {R = R} {at = at} {next = next} l = from_parts (λ (v : View) (n : ℕ) (cs : List ℕ). (ts : Trees) → cells.Parts (seen v) n cs ts → Wrote R at next (as_one ts)) l
+
+all_found : {v : View} {n m : ℕ} {cs : List ℕ} {p : Parts} {R : Cells} {at : Spot} {r : Option Spot} → Lying v n cs p → FoundAll p.rows p.count m p.cells.now R at r → FoundAll v n m cs R at r
+all_found {m = m} {R = R} {at = at} {r = r} l = from_parts (λ (v : View) (n : ℕ) (cs : List ℕ). FoundAll v n m cs R at r) l
+
+pub lay_open-of-requires-2 : goal.lay_open-of-requires-2
+lay_open-of-requires-2 t c =
+    middle_stand c.args.part.rows _ _ _ (c.in-Partial.ensures ∙ ap (λ (x : ℕ). share x c.args.mask) c.graves.ensures) c.in_ok-layout.layout c.in_ok-layout.ensures (had_standing c.args.part.stands) _ c.as_slice-2.ensures.value
 
 pub lay_open-lay_each-requires : goal.lay_open-lay_each-requires
 lay_open-lay_each-requires t c =
-    let l = c.in-Some.layout in
-    let s = c.requires.stands in
-    let e = c.in-Partial.ensures in
-    let h = c.in-Some.ensures in
+    let l = c.in_ok-layout.layout in
+    let s = had_standing c.args.part.stands in
+    let e = c.in-Partial.ensures ∙ ap (λ (x : ℕ). share x c.args.mask) c.graves.ensures in
+    let h = c.in_ok-layout.ensures in
     let f = c.as_slice.ensures.value in
     let d = c.as_slice-2.ensures.value in (
-      omega (arith, lighter c.args.view _ _ _ e l h s _ d, c.decreases),
-      (middle_stand c.args.view _ _ _ e l h s _ d, room_middle c.args.view _ _ _ e l h s _ _ f d c.group-next.ensures.grouped c.requires.room),
+      to_parts (λ (v : View) (n : ℕ) (cs : List ℕ). 2 * (weight v.sets.now cs - length cs) + 3 < t) c.of-2.ensures (omega (arith, lighter c.args.part.rows _ _ _ e l h s _ d, c.decreases)),
+      to_parts (λ (v : View) (n : ℕ) (cs : List ℕ). Room c.group-next.result (2 * weight v.sets.now cs + 1)) c.of-2.ensures
+      (room_middle c.args.part.rows _ _ _ e l h s _ _ f d (grouped c.of.ensures c.group-next.ensures.grouped) c.requires),
     )
 
-pub lay_open-returns-in_default-lay_each : goal.lay_open-returns-in_default-lay_each
-lay_open-returns-in_default-lay_each t c =
-    let l = c.in-Some.layout in
-    let s = c.requires.stands in
-    let e = c.in-Partial.ensures in
-    let h = c.in-Some.ensures in
-    let f = c.as_slice.ensures.value in
-    let d = c.as_slice-2.ensures.value in
-    let u = c.in_default-lay_each.ensures in
-    record {
-      kept = kept_first c.args.view _ _ _ e l h s _ _ f d c.group-next.ensures.grouped c.group-next.ensures.kept u.kept;
-      opened = laid_not c.args.view _ _ _ e l h c.args.at _ d u.opened;
-    }
+pub lay_open-returns-in_err-next-clause-kept : goal.lay_open-returns-in_err-next-clause-kept
+lay_open-returns-in_err-next-clause-kept t c =
+    let e = c.in-Partial.ensures ∙ ap (λ (x : ℕ). share x c.args.mask) c.graves.ensures in
+    kept_first c.args.part.rows _ _ _ e c.in_ok-layout.layout c.in_ok-layout.ensures (had_standing c.args.part.stands) _ _ c.as_slice.ensures.value c.as_slice-2.ensures.value
+    (grouped c.of.ensures c.group-next.ensures.grouped) c.group-next.ensures.kept c.in_err-next.ensures.kept
+
+pub lay_open-returns-in_err-next-clause-opened : goal.lay_open-returns-in_err-next-clause-opened
+lay_open-returns-in_err-next-clause-opened t c =
+    let e = c.in-Partial.ensures ∙ ap (λ (x : ℕ). share x c.args.mask) c.graves.ensures in
+    rw c.from_residual-in_err-next.ensures
+    (laid_not c.args.part.rows _ _ _ e c.in_ok-layout.layout c.in_ok-layout.ensures c.args.at _ c.as_slice-2.ensures.value (all_found c.of-2.ensures c.in_err-next.ensures.opened))
+
+pub lay_open-of-requires-3 : goal.lay_open-of-requires-3
+lay_open-of-requires-3 t c =
+    last_stand c.args.part.rows _ _ _ (c.in-Partial.ensures ∙ ap (λ (x : ℕ). share x c.args.mask) c.graves.ensures) c.in_ok-layout.layout c.in_ok-layout.ensures (had_standing c.args.part.stands) _ c.as_slice-3.ensures.value
 
 pub lay_open-group-requires : goal.lay_open-group-requires
 lay_open-group-requires t c =
-    let l = c.in-Some.layout in
-    let s = c.requires.stands in
-    let e = c.in-Partial.ensures in
-    let h = c.in-Some.ensures in
-    let f = c.as_slice.ensures.value in
-    let d = c.as_slice-2.ensures.value in
-    let j = c.as_slice-3.ensures.value in
-    record {
-      stand = last_stand c.args.view _ _ _ e l h s _ j;
-      room = room_last c.args.view _ _ _ e l h s _ _ f d c.group-next.ensures.grouped c.requires.room c.in-Some-lay_each.ensures.opened _ j;
-    }
+    let e = c.in-Partial.ensures ∙ ap (λ (x : ℕ). share x c.args.mask) c.graves.ensures in
+    to_parts (λ (v : View) (n : ℕ) (cs : List ℕ). Room c.in_ok-next.next (2 * weight v.sets.now cs + 1)) c.of-3.ensures
+    (room_last c.args.part.rows _ _ _ e c.in_ok-layout.layout c.in_ok-layout.ensures (had_standing c.args.part.stands) _ _ c.as_slice.ensures.value c.as_slice-2.ensures.value
+    (grouped c.of.ensures c.group-next.ensures.grouped) c.requires (all_found c.of-2.ensures c.in_ok-next.ensures.opened) _ c.as_slice-3.ensures.value)
 
-pub lay_open-returns : goal.lay_open-returns
-lay_open-returns t c =
-    let l = c.in-Some.layout in
-    let s = c.requires.stands in
-    let e = c.in-Partial.ensures in
-    let h = c.in-Some.ensures in
-    let f = c.as_slice.ensures.value in
-    let d = c.as_slice-2.ensures.value in
-    let u = c.in-Some-lay_each.ensures in
-    record {
-      kept = kept_all c.args.view _ _ _ e l h s _ _ f d c.group-next.ensures.grouped u.opened c.group-next.ensures.kept u.kept c.group.ensures.kept;
-      opened = laid_open c.args.view _ _ _ e l h _ _ _ f d c.as_slice-3.ensures.value c.group-next.ensures.grouped u.kept u.opened c.group.ensures.kept c.group.ensures.grouped;
-    }
+pub lay_open-returns-clause-kept : goal.lay_open-returns-clause-kept
+lay_open-returns-clause-kept t c =
+    let e = c.in-Partial.ensures ∙ ap (λ (x : ℕ). share x c.args.mask) c.graves.ensures in
+    kept_all c.args.part.rows _ _ _ e c.in_ok-layout.layout c.in_ok-layout.ensures (had_standing c.args.part.stands) _ _ c.as_slice.ensures.value c.as_slice-2.ensures.value
+    (grouped c.of.ensures c.group-next.ensures.grouped) (all_found c.of-2.ensures c.in_ok-next.ensures.opened) c.group-next.ensures.kept c.in_ok-next.ensures.kept c.group.ensures.kept
+
+pub lay_open-returns-clause-opened : goal.lay_open-returns-clause-opened
+lay_open-returns-clause-opened t c =
+    let e = c.in-Partial.ensures ∙ ap (λ (x : ℕ). share x c.args.mask) c.graves.ensures in
+    laid_open c.args.part.rows _ _ _ e c.in_ok-layout.layout c.in_ok-layout.ensures _ _ _ c.as_slice.ensures.value c.as_slice-2.ensures.value c.as_slice-3.ensures.value
+    (grouped c.of.ensures c.group-next.ensures.grouped) c.in_ok-next.ensures.kept (all_found c.of-2.ensures c.in_ok-next.ensures.opened) c.group.ensures.kept
+    (grouped c.of-3.ensures c.group.ensures.grouped)

@@ -1,31 +1,33 @@
-use Rattle.std.proofs.Common.{arith}
-use Rattle.changes.proofs.Standing.{stand_below}
+use Rattle.std.proofs.Common.{ℕ, List, sym, ap, ◌∙◌, arith}
+use Rattle.trees.specs.Sorts.{code_of}
+use Rattle.trees.specs.declared.rows.Sort.TheVariants.{Any}
+use Rattle.trees.specs.declared.rows.View.{View}
+use Rattle.trees.proofs.Sorts.{same_sort, other_sort}
+use Rattle.changes.specs.Layouts.{Apart}
 use Rattle.changes.proofs.Layouts.{layout_many, layout_any, layout_stuck, layout_row}
+use Rattle.changes.proofs.Through.{from_parts}
 use Rattle.changes.proofs.opening.lay_out.Goals as goal
 
-pub bounds-view-i : goal.bounds-view-i
-bounds-view-i c = omega (arith, c.requires.below, c.requires.long.sorts_long)
+pub of-requires : goal.of-requires
+of-requires c = rw c.as_slice.ensures.value c.branches_of-cells.ensures.stand
 
-pub set_apart-layout-requires : goal.set_apart-layout-requires
-set_apart-layout-requires c =
-    let s = c.branches_of-cells.ensures.stand in
-    record { within = rw c.as_slice.ensures.value (stand_below _ _ _ s); few = c.as_slice.ensures.fits }
+pub sequence-requires : goal.sequence-requires
+sequence-requires c = c.branches_of-cells.ensures.stand
 
 pub returns-then-len-gt1 : goal.returns-then-len-gt1
 returns-then-len-gt1 c = λ k b w t p s e.
-    layout_many c.args.view _ _ k b _ w _ t p s (rw c.as_slice.ensures.value (c.branches_of-cells.ensures.branches t p)) e c.if-view-i.true c.set_apart-layout.result c.set_apart-layout.ensures (omega (arith, c.if-len-gt1.true))
+    layout_many c.args.part.rows _ _ k b _ w _ t p s (rw c.as_slice.ensures.value (c.branches_of-cells.ensures.branches t p)) e (sym c.sort.ensures ∙ ap code_of (same_sort c.sort.result Any c.if-eq.ensures)) c.set_apart-layout.result
+    (from_parts (λ (v : View) (n : ℕ) (cs : List ℕ). Apart v.sets.now c.args.mask cs c.set_apart-layout.result) c.of.ensures c.set_apart-layout.ensures) (omega (arith, c.len.ensures.value, c.if-len-gt1.true))
 
-pub returns-then-view-i : goal.returns-then-view-i
-returns-then-view-i c = λ k b w t p s e.
-    layout_any c.args.view _ _ k b _ w _ t p s (rw c.as_slice.ensures.value (c.branches_of-cells.ensures.branches t p)) e c.if-view-i.true c.set_apart-layout.result c.set_apart-layout.ensures (omega (arith, c.if-len-gt1.false))
+pub returns-then-eq : goal.returns-then-eq
+returns-then-eq c = λ k b w t p s e.
+    layout_any c.args.part.rows _ _ k b _ w _ t p s (rw c.as_slice.ensures.value (c.branches_of-cells.ensures.branches t p)) e (sym c.sort.ensures ∙ ap code_of (same_sort c.sort.result Any c.if-eq.ensures)) c.set_apart-layout.result
+    (from_parts (λ (v : View) (n : ℕ) (cs : List ℕ). Apart v.sets.now c.args.mask cs c.set_apart-layout.result) c.of.ensures c.set_apart-layout.ensures) (omega (arith, c.len.ensures.value, c.if-len-gt1.false))
 
-pub sequence-requires : goal.sequence-requires
-sequence-requires c = stand_below _ _ _ c.branches_of-cells.ensures.stand
-
-pub returns-in_default : goal.returns-in_default
-returns-in_default c = λ k b w t p s e.
-    layout_stuck c.args.view _ _ k b _ w _ t p s (c.branches_of-cells.ensures.branches t p) e c.if-view-i.false c.in_default.ensures
+pub returns-in_err-middle : goal.returns-in_err-middle
+returns-in_err-middle c = λ k b w t p s e.
+    rw c.from_residual.ensures (layout_stuck c.args.part.rows _ _ k b _ w _ t p s (c.branches_of-cells.ensures.branches t p) e (λ h. other_sort c.sort.result Any c.if-eq.ensures (c.sort.ensures ∙ h)) c.in_err-middle.ensures)
 
 pub returns : goal.returns
 returns c = λ k b w t p s e.
-    layout_row c.args.view _ _ k b _ w _ t p s (c.branches_of-cells.ensures.branches t p) e c.if-view-i.false _ _ _ c.new.ensures c.new-2.ensures c.in-Some.ensures
+    layout_row c.args.part.rows _ _ k b _ w _ t p s (c.branches_of-cells.ensures.branches t p) e (λ h. other_sort c.sort.result Any c.if-eq.ensures (c.sort.ensures ∙ h)) _ _ _ c.new.ensures c.new-2.ensures c.in_ok-middle.ensures
