@@ -11,7 +11,7 @@ use Rattle.trees.specs.declared.rows.View.{View}
 use Rattle.trees.proofs.Cells.{some_nodes, len_nodes, all_few_nodes, body_set, kids_parts, parts_len}
 use Rattle.trees.proofs.Allowing.{goods_len}
 use Rattle.trees.proofs.Standing.{part_size}
-use Rattle.trees.proofs.Sets.{sound_kids, sounds_first, sounds_rest, few_branches}
+use Rattle.trees.proofs.Sets.{sound_kids, sounds_first, sounds_rest}
 use Rattle.trees.specs.Walks.{Listed}
 use Rattle.changes.specs.declared.draft.Spot.{Spot}
 use Rattle.changes.specs.Bunches.{AllStand, weight}
@@ -50,9 +50,6 @@ parts_below R n (c ∷ cs) (more t ts) p (suc k) d l = parts_below R n cs ts p.1
 
 pub stand_below : (v : View) (n : ℕ) (cs : List ℕ) → AllStand v n cs → All (λ c. c < length v.sets.now) cs
 stand_below v n cs s k d l = omega (arith, parts_below (seen v) n cs s.trees s.parts k d l, s.long.sets_long)
-
-pub stand_few : (v : View) (n : ℕ) (cs : List ℕ) → AllStand v n cs → length cs ≤ 64
-stand_few v n cs s = omega (arith, parts_len (seen v) n cs s.trees s.parts, few_branches s.trees s.sound)
 
 pub stand_at : (v : View) (n : ℕ) (cs : List ℕ) (x : ℕ) → AllStand v n cs → x < length cs → Stands v n (get_or cs x 0)
 stand_at v n cs x s l = record {

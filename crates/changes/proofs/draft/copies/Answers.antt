@@ -2,12 +2,9 @@ use Rattle.std.proofs.Common.{subst, arith}
 use Rattle.trees.proofs.Cells.{parts_len}
 use Rattle.changes.specs.Written.{Wrote}
 use Rattle.changes.proofs.Fronts.{front_all, part_at}
-use Rattle.changes.proofs.Writing.{kept_refl, kept_trans, wrote_none, wrote_front, wrote_on}
+use Rattle.changes.proofs.Writing.{kept_trans, wrote_front, wrote_on}
 use Rattle.changes.proofs.Standing.{stand_at, room_at}
 use Rattle.changes.proofs.draft.copies.Goals as goal
-
-pub loop-cell-init : goal.loop-cell-init
-loop-cell-init c = (kept_refl _ _, λ ts p. wrote_none _ _)
 
 pub copy-next-requires : goal.copy-next-requires
 copy-next-requires c = record {
@@ -21,8 +18,5 @@ loop-cell-preserved c = (
   λ ts p. wrote_front _ ts (omega (arith, parts_len _ _ _ ts p, c.loop-cell-test.true)) (c.loop-cell.invariant.1 ts p) c.copy-next.ensures.kept (c.copy-next.ensures.copied _ (part_at _ _ _ ts _ p c.loop-cell-test.true)),
 )
 
-pub returns : goal.returns
-returns c = record {
-  kept = c.loop-cell.invariant.0;
-  copied = λ ts p. subst (Wrote _ _ _) (front_all _ ts (omega (arith, parts_len _ _ _ ts p, c.loop-cell-test.false))) (c.loop-cell.invariant.1 ts p);
-}
+pub returns-clause-copied : goal.returns-clause-copied
+returns-clause-copied c = λ ts p. subst (Wrote _ _ _) (front_all _ ts (omega (arith, parts_len _ _ _ ts p, c.loop-cell-test.false))) (c.loop-cell.invariant.1 ts p)

@@ -1,18 +1,9 @@
 use Rattle.std.proofs.Common.{◌<◌, refl, arith}
-use Rattle.changes.proofs.Writing.{kept_refl, kept_trans, headed_kept, moved_more, copied, stands_nodes, stands_inner, stands_within}
+use Rattle.changes.proofs.Writing.{kept_trans, headed_kept, moved_more, copied, stands_nodes, stands_inner, stands_within}
 use Rattle.changes.proofs.draft.copy.Goals as goal
-
-pub bounds-view-i : goal.bounds-view-i
-bounds-view-i c = omega (arith, c.requires.stands.below, c.requires.stands.long.sorts_long)
-
-pub bounds-view-i-2 : goal.bounds-view-i-2
-bounds-view-i-2 c = omega (arith, c.requires.stands.below, c.requires.stands.long.sets_long)
 
 pub put-requires : goal.put-requires
 put-requires c = omega (arith, stands_nodes _ _ _ c.requires.stands, c.requires.room.fits)
-
-pub loop-x-init : goal.loop-x-init
-loop-x-init c = (kept_refl _ _, c.put.ensures.there, λ x y l m. absurd (omega arith))
 
 pub overflow_sub-parent : goal.overflow_sub-parent
 overflow_sub-parent c = (stands_inner _ _ _ _ c.requires.stands c.next_after-end.ensures.end _ c.loop-x-test.true (omega (arith, c.loop-x.auto.x))).0
@@ -39,8 +30,6 @@ loop-x-preserved c =
 pub overflow_add-result-2 : goal.overflow_add-result-2
 overflow_add-result-2 c = omega (arith, stands_nodes _ _ _ c.requires.stands, c.requires.room.fits, c.requires.room.few)
 
-pub returns : goal.returns
-returns c = record {
-  kept = kept_trans c.put.ensures.kept (omega arith) c.loop-x.invariant.0;
-  copied = λ t p. let e = c.next_after-end.ensures.end t p in copied _ _ _ _ _ _ t p.0 c.loop-x.invariant.1 c.loop-x.invariant.2 (omega (arith, c.loop-x-test.false)) (omega arith) refl refl;
-}
+pub returns-clause-copied : goal.returns-clause-copied
+returns-clause-copied c = λ t p.
+    let e = c.next_after-end.ensures.end t p in copied _ _ _ _ _ _ t p.0 c.loop-x.invariant.1 c.loop-x.invariant.2 (omega (arith, c.loop-x-test.false)) (omega arith) refl refl

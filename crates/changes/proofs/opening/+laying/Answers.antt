@@ -32,11 +32,8 @@ lay_each-loop-cell-preserved t c = (
   loop_more c.args.view _ _ _ _ c.loop-cell-test.true c.loop-cell.invariant.1 c.in-Some.ensures.kept c.in-Some.ensures.opened,
 )
 
-pub lay_each-returns : goal.lay_each-returns
-lay_each-returns t c = record {
-  kept = c.loop-cell.invariant.0;
-  opened = loop_end c.args.view _ _ _ _ c.loop-cell-test.false c.loop-cell.invariant.1;
-}
+pub lay_each-returns-clause-opened : goal.lay_each-returns-clause-opened
+lay_each-returns-clause-opened t c = loop_end c.args.view _ _ _ _ c.loop-cell-test.false c.loop-cell.invariant.1
 
 pub lay_open-returns-in-Empty : goal.lay_open-returns-in-Empty
 lay_open-returns-in-Empty t c = record {
@@ -45,11 +42,8 @@ lay_open-returns-in-Empty t c = record {
       rw (stays_whole k b u c.share_of.result c.in-Empty.is (cell_tells k b _ w c.args.view _ _ u p s ∙ sym (ap (told b) c.share_of.ensures))) (laid_at (c.copy.ensures.copied u p));
 }
 
-pub lay_open-returns-in_default : goal.lay_open-returns-in_default
-lay_open-returns-in_default t c = record {
-  kept = kept_refl _ _;
-  opened = λ k b w u p s. rw (c.in_default.ensures k b w u p s (part_told c.args.view _ _ _ k b w c.in-Partial.ensures u p s)) not_laid;
-}
+pub lay_open-returns-in_default-clause-opened : goal.lay_open-returns-in_default-clause-opened
+lay_open-returns-in_default-clause-opened t c = λ k b w u p s. rw (c.in_default.ensures k b w u p s (part_told c.args.view _ _ _ k b w c.in-Partial.ensures u p s)) not_laid
 
 pub lay_open-group-next-requires : goal.lay_open-group-next-requires
 lay_open-group-next-requires t c =

@@ -3,13 +3,8 @@ use Rattle.changes.proofs.Standing.{stand_below}
 use Rattle.changes.proofs.Layouts.{layout_many, layout_any, layout_stuck, layout_row}
 use Rattle.changes.proofs.opening.lay_out.Goals as goal
 
-pub bounds-view-i : goal.bounds-view-i
-bounds-view-i c = omega (arith, c.requires.below, c.requires.long.sorts_long)
-
-pub set_apart-layout-requires : goal.set_apart-layout-requires
-set_apart-layout-requires c =
-    let s = c.branches_of-cells.ensures.stand in
-    record { within = rw c.as_slice.ensures.value (stand_below _ _ _ s); few = c.as_slice.ensures.fits }
+pub set_apart-layout-requires-clause-within : goal.set_apart-layout-requires-clause-within
+set_apart-layout-requires-clause-within c = rw c.as_slice.ensures.value (stand_below _ _ _ c.branches_of-cells.ensures.stand)
 
 pub returns-then-len-gt1 : goal.returns-then-len-gt1
 returns-then-len-gt1 c = λ k b w t p s e.
