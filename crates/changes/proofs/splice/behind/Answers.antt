@@ -23,5 +23,5 @@ loop-x-preserved c =
           }),
     )
 
-pub returns : goal.returns
-returns c = record { cells = omega arith; kept = c.loop-x.invariant.0; shifted = λ x y h l w. c.loop-x.invariant.1 x y h (omega arith) w }
+pub returns-clause-shifted : goal.returns-clause-shifted
+returns-clause-shifted c = λ x y h l w. c.loop-x.invariant.1 x y h (omega arith) w

@@ -16,11 +16,15 @@ returns-in_err-at c =
     let site = at_site c.requires.stands c.requires.two c.smallest-part.ensures in
     rw c.from_residual.ensures (drawn_none site (drafted c.rebuild.new.draft) c.in_err-at.ensures.rebuilt)
 
-pub behind-requires : goal.behind-requires
-behind-requires c =
+pub behind-requires-clause-room : goal.behind-requires-clause-room
+behind-requires-clause-room c =
     let site = at_site c.requires.stands c.requires.two c.smallest-part.ensures in
-    let room = whole_room site (drafted c.rebuild.new.draft) c.in_ok-at.at c.next_after-end.result c.next_after-end.ensures.end c.in_ok-at.ensures.rebuilt in
-    record { long = c.requires.stands.long; ordered = omega arith; room = omega arith; parents = λ x. parents_below site c.next_after-end.result x (omega arith) }
+    omega (arith, whole_room site (drafted c.rebuild.new.draft) c.in_ok-at.at c.next_after-end.result c.next_after-end.ensures.end c.in_ok-at.ensures.rebuilt)
+
+pub behind-requires-clause-parents : goal.behind-requires-clause-parents
+behind-requires-clause-parents c =
+    let site = at_site c.requires.stands c.requires.two c.smallest-part.ensures in
+    λ x. parents_below site c.next_after-end.result x (omega arith)
 
 pub returns : goal.returns
 returns c =

@@ -12,10 +12,8 @@ use Rattle.changes.proofs.Standing.{stand_below}
 use Rattle.changes.proofs.Writing.{kept_trans, kept_inside, wrote_on}
 use Rattle.changes.proofs.templates.any_part.Goals as goal
 
-pub set_apart-first-requires : goal.set_apart-first-requires
-set_apart-first-requires c =
-    let s = c.branches_of-branches.ensures.stand in
-    record { within = rw c.as_slice.ensures.value (stand_below _ _ _ s); few = c.as_slice.ensures.fits }
+pub set_apart-first-requires-clause-within : goal.set_apart-first-requires-clause-within
+set_apart-first-requires-clause-within c = rw c.as_slice.ensures.value (stand_below _ _ _ c.branches_of-branches.ensures.stand)
 
 pub bind-requires : goal.bind-requires
 bind-requires c = record {
@@ -25,13 +23,10 @@ bind-requires c = record {
   room = room_heavy c.args.view _ _ c.args.kind _ _ c.as_slice.ensures.value c.branches_of-branches.ensures.branches _ c.set_apart-first.ensures c.requires.stands c.requires.any (c.requires.heavy c.requires.stands.tree c.requires.stands.part) _ _ c.as_slice-partials.ensures.value c.as_slice-fulls.ensures.value _ c.requires.room;
 }
 
-pub returns-then-is_empty : goal.returns-then-is_empty
-returns-then-is_empty c = record {
-  kept = c.bind.ensures.kept;
-  rebuilt = λ t p q.
-      rw (none_bare c.args.view _ _ c.args.kind _ _ c.as_slice.ensures.value c.branches_of-branches.ensures.branches _ c.set_apart-first.ensures (eqb-true _ 0 (sym c.if-is_empty.ensures)) t p q, ← join_none (cut_middle (has c.args.kind) (sel (has c.args.kind) part (kids t)) (sel (has c.args.kind) full (kids t))))
-      (c.bind.ensures.bound (kids t) (partial_parts c.args.view _ _ c.args.kind _ _ c.as_slice.ensures.value c.branches_of-branches.ensures.branches _ c.set_apart-first.ensures _ c.as_slice-partials.ensures.value t p q) (full_parts c.args.view _ _ c.args.kind _ _ c.as_slice.ensures.value c.branches_of-branches.ensures.branches _ c.set_apart-first.ensures _ c.as_slice-fulls.ensures.value t p q) (sound_kids t q));
-}
+pub returns-then-is_empty-clause-rebuilt : goal.returns-then-is_empty-clause-rebuilt
+returns-then-is_empty-clause-rebuilt c = λ t p q.
+    rw (none_bare c.args.view _ _ c.args.kind _ _ c.as_slice.ensures.value c.branches_of-branches.ensures.branches _ c.set_apart-first.ensures (eqb-true _ 0 (sym c.if-is_empty.ensures)) t p q, ← join_none (cut_middle (has c.args.kind) (sel (has c.args.kind) part (kids t)) (sel (has c.args.kind) full (kids t))))
+    (c.bind.ensures.bound (kids t) (partial_parts c.args.view _ _ c.args.kind _ _ c.as_slice.ensures.value c.branches_of-branches.ensures.branches _ c.set_apart-first.ensures _ c.as_slice-partials.ensures.value t p q) (full_parts c.args.view _ _ c.args.kind _ _ c.as_slice.ensures.value c.branches_of-branches.ensures.branches _ c.set_apart-first.ensures _ c.as_slice-fulls.ensures.value t p q) (sound_kids t q))
 
 pub copies-next-requires : goal.copies-next-requires
 copies-next-requires c = record {

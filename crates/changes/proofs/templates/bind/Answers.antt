@@ -15,14 +15,11 @@ use Rattle.changes.proofs.templates.bind.Goals as goal
 pub union-requires : goal.union-requires
 union-requires c = stand_below _ _ _ c.requires.fulls
 
-pub returns-then-is_empty : goal.returns-then-is_empty
-returns-then-is_empty c = record {
-  kept = kept_inside c.args.at c.inside.ensures c.copies-end.ensures.kept c.put.ensures.kept;
-  bound = λ ts p q s.
-      rw (no_middle (has c.args.kind) (sel (has c.args.kind) part ts) (sel (has c.args.kind) full ts) (sym (parts_len _ _ _ (sel (has c.args.kind) part ts) p) ∙ eqb-true (length c.args.partials.now) 0 (sym c.if-is_empty.ensures)))
-      (lies_any c.args.at c.inside.ensures c.copies-end.ensures.kept (sel (has c.args.kind) full ts) (c.union.ensures ∙ parts_union c.args.view _ _ _ q)
-      (c.copies-end.ensures.copied _ q) c.put.ensures.there);
-}
+pub returns-then-is_empty-clause-bound : goal.returns-then-is_empty-clause-bound
+returns-then-is_empty-clause-bound c = λ ts p q s.
+    rw (no_middle (has c.args.kind) (sel (has c.args.kind) part ts) (sel (has c.args.kind) full ts) (sym (parts_len _ _ _ (sel (has c.args.kind) part ts) p) ∙ eqb-true (length c.args.partials.now) 0 (sym c.if-is_empty.ensures)))
+    (lies_any c.args.at c.inside.ensures c.copies-end.ensures.kept (sel (has c.args.kind) full ts) (c.union.ensures ∙ parts_union c.args.view _ _ _ q)
+    (c.copies-end.ensures.copied _ q) c.put.ensures.there)
 
 pub union-requires-2 : goal.union-requires-2
 union-requires-2 c = stand_below _ _ _ c.requires.fulls
@@ -38,21 +35,18 @@ lay_open-requires c =
       room = room_one c.args.view _ c.args.kind _ _ l c.requires.partials c.requires.fulls (room_inside c.args.at _ c.inside-2.ensures c.requires.room) c.requires.two;
     }
 
-pub returns-in_default : goal.returns-in_default
-returns-in_default c =
+pub returns-in_default-clause-bound : goal.returns-in_default-clause-bound
+returns-in_default-clause-bound c =
     let l : 0 < length c.args.partials.now = omega (arith, eqb-false (length c.args.partials.now) 0 (sym c.if-is_empty.ensures)) in
     let u = c.in_default.ensures in
-    record {
-      kept = kept_inside c.args.at c.inside-2.ensures u.kept c.put-2.ensures.kept;
-      bound = λ ts p q s.
-          rw (sel_middle (has c.args.kind) ts s (omega (arith, parts_len _ _ _ (sel (has c.args.kind) part ts) p)))
-          (rebuilt_none c.args.at (middle_stuck c.args.view _ c.args.kind _ c.args.fulls.now l u.opened (sel (has c.args.kind) part ts) (sel (has c.args.kind) full ts) p (sel_sounds (has c.args.kind) part ts s)));
-    }
+    λ ts p q s.
+    rw (sel_middle (has c.args.kind) ts s (omega (arith, parts_len _ _ _ (sel (has c.args.kind) part ts) p)))
+    (rebuilt_none c.args.at (middle_stuck c.args.view _ c.args.kind _ c.args.fulls.now l u.opened (sel (has c.args.kind) part ts) (sel (has c.args.kind) full ts) p (sel_sounds (has c.args.kind) part ts s)))
 
-pub group-next-requires : goal.group-next-requires
-group-next-requires c =
+pub group-next-requires-clause-room : goal.group-next-requires-clause-room
+group-next-requires-clause-room c =
     let l : 0 < length c.args.partials.now = omega (arith, eqb-false (length c.args.partials.now) 0 (sym c.if-is_empty.ensures)) in
-    record { stand = c.requires.fulls; room = room_fulls c.args.view _ c.args.kind _ _ l c.requires.partials c.requires.fulls (room_inside c.args.at _ c.inside-2.ensures c.requires.room) c.in-Some.ensures.opened }
+    room_fulls c.args.view _ c.args.kind _ _ l c.requires.partials c.requires.fulls (room_inside c.args.at _ c.inside-2.ensures c.requires.room) c.in-Some.ensures.opened
 
 pub lay_all-requires : goal.lay_all-requires
 lay_all-requires c =

@@ -8,17 +8,14 @@ use Rattle.changes.proofs.Rebuilding.{room_inside, rebuilt_none, rebuilt_row}
 use Rattle.changes.proofs.RowParts.{is_torn, before_stand, behind_stand, room_before, room_next, room_behind, kept_before, kept_next, cut_stuck, cut_opened}
 use Rattle.changes.proofs.Standing.{stand_at, stand_below}
 use Rattle.changes.proofs.Telling.{mask_not}
-use Rattle.changes.proofs.Writing.{kept_refl, kept_inside}
+use Rattle.changes.proofs.Writing.{kept_inside}
 use Rattle.changes.proofs.templates.row_part.Goals as goal
 
 pub first_with-requires : goal.first_with-requires
 first_with-requires c = rw c.as_slice-cells.ensures.value (stand_below _ _ _ c.branches_of-branches.ensures.stand)
 
-pub returns-in_default : goal.returns-in_default
-returns-in_default c = record {
-  kept = kept_refl _ _;
-  rebuilt = λ t p q. rw (is_torn c.args.view _ _ _ _ _ c.as_slice-cells.ensures.value c.branches_of-branches.ensures.branches _ c.in_default.ensures (omega arith) t p q) tt;
-}
+pub returns-in_default-clause-rebuilt : goal.returns-in_default-clause-rebuilt
+returns-in_default-clause-rebuilt c = λ t p q. rw (is_torn c.args.view _ _ _ _ _ c.as_slice-cells.ensures.value c.branches_of-branches.ensures.branches _ c.in_default.ensures (omega arith) t p q) tt
 
 pub copies-next-requires : goal.copies-next-requires
 copies-next-requires c = record {

@@ -10,8 +10,8 @@ bounds-sets-0 c = first_set c.requires c.args.kind
 pub returns-then-ties_nothing : goal.returns-then-ties_nothing
 returns-then-ties_nothing c = few_changes c.requires c.args.kind (c.ties_nothing.ensures.few c.if-ties_nothing.true)
 
-pub redraw-requires : goal.redraw-requires
-redraw-requires c = record { stands = stands_whole _ c.args.count c.requires; two = c.ties_nothing.ensures.many c.if-ties_nothing.false }
+pub redraw-requires-clause-stands : goal.redraw-requires-clause-stands
+redraw-requires-clause-stands c = stands_whole _ c.args.count c.requires
 
 pub returns-in_default : goal.returns-in_default
 returns-in_default c =
