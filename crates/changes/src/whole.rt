@@ -6,7 +6,7 @@ ghost use Rattle.trees.specs.Cells.{held, shortest};
 ghost use Rattle.trees.specs.Rows.{lent_rows, SameSlices};
 ghost use Rattle.trees.specs.Starting.{SameFrom};
 
-use crate::draft::Draft;
+use crate::draft::{Draft, overwrite};
 use crate::splice::redraw;
 use trees::rows::Rows;
 use trees::whole::WholeTree;
@@ -19,10 +19,10 @@ fn back(draft: &Draft, count: usize, rows: &mut Rows)
     ensures rest { SameFrom count (lent_rows rows.old) (lent_rows rows.new) }
     ensures same { SameSlices rows.old rows.new }
 {
-    rows.parents[..count].copy_from_slice(&draft.parents[..count]);
-    rows.sorts[..count].copy_from_slice(&draft.sorts[..count]);
-    rows.places[..count].copy_from_slice(&draft.places[..count]);
-    rows.sets[..count].copy_from_slice(&draft.sets[..count]);
+    overwrite(rows.parents, &draft.parents[..count]);
+    overwrite(rows.sorts, &draft.sorts[..count]);
+    overwrite(rows.places, &draft.places[..count]);
+    overwrite(rows.sets, &draft.sets[..count]);
 }
 
 // Whether the kind lay in fewer than two of these graves, so that it ties nothing together.
