@@ -1,5 +1,5 @@
 // Rows of its own into which a changed tree is written before the lent rows change.
-ghost use Rattle.std.specs.Prelude.{◌≡◌, ◌+◌, ◌*◌, ◌<◌, ◌≤◌, ◌++◌, length, drop, count_ones};
+ghost use Rattle.std.specs.Prelude.{◌≡◌, ◌+◌, ◌*◌, ◌<◌, count_ones};
 ghost use Rattle.finds.specs.Trees.{Tree, Trees, none, more};
 ghost use Rattle.trees.specs.Subtrees.{Is, set_at};
 ghost use Rattle.changes.specs.Bunches.{weight};
@@ -107,12 +107,4 @@ pub(crate) fn group(parts: Parts, draft: &mut Draft, at: Spot) -> Spot
         parent: at.parent,
         place: at.place + 1,
     }
-}
-
-// Writes the cells in front of the row.
-pub(crate) fn overwrite<T: Copy>(row: &mut [T], cells: &[T])
-    requires { length cells.now ≤ length row.old }
-    ensures { row.new ≡ cells.now ++ drop (length cells.now) row.old }
-{
-    row[..cells.len()].copy_from_slice(cells);
 }

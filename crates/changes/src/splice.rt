@@ -8,7 +8,7 @@ ghost use Rattle.pqtree.specs.Change.{change};
 ghost use Rattle.trees.specs.Cells.{Holds};
 ghost use Rattle.trees.specs.Rows.{seen};
 
-use crate::draft::{Draft, Spot, overwrite, put};
+use crate::draft::{Draft, Spot, put};
 use crate::templates::rebuild;
 use trees::subtree::Subtree;
 use trees::whole::WholeTree;
@@ -34,10 +34,10 @@ fn before(part: Subtree, draft: &mut Draft)
     ensures { Kept (seen part.entry.rows) (drafted draft.new) part.entry.root }
 {
     let Subtree { rows, root, .. } = part;
-    overwrite(&mut draft.parents, &rows.parents[..root]);
-    overwrite(&mut draft.sorts, &rows.sorts[..root]);
-    overwrite(&mut draft.places, &rows.places[..root]);
-    overwrite(&mut draft.sets, &rows.sets[..root]);
+    draft.parents[..root].copy_from_slice(&rows.parents[..root]);
+    draft.sorts[..root].copy_from_slice(&rows.sorts[..root]);
+    draft.places[..root].copy_from_slice(&rows.places[..root]);
+    draft.sets[..root].copy_from_slice(&rows.sets[..root]);
 }
 
 // The cells of the tree from the cell end on, moved to the cell at; the number of cells then.

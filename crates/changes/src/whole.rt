@@ -1,12 +1,12 @@
 // The tree in lent rows, changed for one kind more.
-ghost use Rattle.std.specs.Prelude.{◌≡◌, ◌<◌, ◌≤◌, true, false, bit_and, count_ones};
+ghost use Rattle.std.specs.Prelude.{◌≡◌, ◌<◌, ◌≤◌, true, false, ◌++◌, length, drop, bit_and, count_ones};
 ghost use Rattle.changes.specs.Draft.{drafted, Kept};
 ghost use Rattle.changes.specs.Whole.{Holding, Changes};
 ghost use Rattle.trees.specs.Cells.{held, shortest};
 ghost use Rattle.trees.specs.Rows.{lent_rows, SameSlices};
 ghost use Rattle.trees.specs.Starting.{SameFrom};
 
-use crate::draft::{Draft, overwrite};
+use crate::draft::Draft;
 use crate::splice::redraw;
 use trees::rows::Rows;
 use trees::whole::WholeTree;
@@ -23,6 +23,14 @@ fn back(draft: &Draft, count: usize, rows: &mut Rows)
     overwrite(rows.sorts, &draft.sorts[..count]);
     overwrite(rows.places, &draft.places[..count]);
     overwrite(rows.sets, &draft.sets[..count]);
+}
+
+// Writes the cells in front of the row.
+fn overwrite<T: Copy>(row: &mut [T], cells: &[T])
+    requires { length cells.now ≤ length row.old }
+    ensures { row.new ≡ cells.now ++ drop (length cells.now) row.old }
+{
+    row[..cells.len()].copy_from_slice(cells);
 }
 
 // Whether the kind lay in fewer than two of these graves, so that it ties nothing together.
