@@ -17,6 +17,7 @@ use Rattle.changes.specs.declared.parts.Parts.{Parts}
 use Rattle.changes.proofs.Having.{had_all}
 use Rattle.changes.proofs.Laying.{part_told, first_stand, middle_stand, last_stand, room_first, room_middle, room_last, lighter, kept_first, kept_all, laid_open, laid_not}
 use Rattle.changes.proofs.Openings.{Found, FoundAll, stays_whole, loop_more, loop_end, loop_stuck, loop_kept, room_next, each_lighter}
+use Rattle.changes.proofs.Passing.{grouped, all_found}
 use Rattle.changes.proofs.Telling.{told, cell_tells}
 use Rattle.changes.proofs.Through.{through_start, through_some, through_at, through_more, through_end, to_part, from_part, to_parts, from_parts, at_set}
 use Rattle.changes.proofs.Writing.{kept_refl, wrote_none}
@@ -89,13 +90,6 @@ lay_open-group-next-requires t c =
     let e = c.in-Partial.ensures ∙ ap (λ (x : ℕ). share x c.args.mask) c.graves.ensures in
     to_parts (λ (v : View) (n : ℕ) (cs : List ℕ). Room c.args.at (2 * weight v.sets.now cs + 1)) c.of.ensures
     (room_first c.args.part.rows _ _ _ e c.in_ok-layout.layout c.in_ok-layout.ensures (had_standing c.args.part.stands) _ c.as_slice.ensures.value c.requires)
-
--- What a call says of the parts that were passed to it, said of their cells.
-grouped : {v : View} {n : ℕ} {cs : List ℕ} {p : Parts} {R : Cells} {at next : Spot} → Lying v n cs p → ((ts : Trees) → Are p ts → Wrote R at next (as_one ts)) → (ts : Trees) → cells.Parts (seen v) n cs ts → Wrote R at next (as_one ts)
-grouped {R = R} {at = at} {next = next} l = from_parts (λ (v : View) (n : ℕ) (cs : List ℕ). (ts : Trees) → cells.Parts (seen v) n cs ts → Wrote R at next (as_one ts)) l
-
-all_found : {v : View} {n m : ℕ} {cs : List ℕ} {p : Parts} {R : Cells} {at : Spot} {r : Option Spot} → Lying v n cs p → FoundAll p.rows p.count m p.cells.now R at r → FoundAll v n m cs R at r
-all_found {m = m} {R = R} {at = at} {r = r} l = from_parts (λ (v : View) (n : ℕ) (cs : List ℕ). FoundAll v n m cs R at r) l
 
 pub lay_open-of-requires-2 : goal.lay_open-of-requires-2
 lay_open-of-requires-2 t c =
