@@ -9,7 +9,8 @@ use Rattle.pqtree.specs.Theorems.{Stands as StandsFor}
 use Rattle.pqtree.proofs.Change.{step_size}
 use Rattle.pqtree.proofs.Exact.{step_exact}
 use Rattle.trees.specs.Cells.{size, Sound, Cells, Lent, lent, held, shortest, Holds}
-use Rattle.trees.specs.Rows.{Stands}
+use Rattle.trees.specs.Checks.{TreeIn}
+use Rattle.trees.specs.Rows.{seen_rows}
 use Rattle.trees.specs.Starting.{SameFrom}
 use Rattle.trees.specs.declared.rows.View.{View}
 use Rattle.trees.proofs.Cells.{some_nodes, few_nodes, holds_part}
@@ -45,16 +46,14 @@ right f S None (made u) sound a b = absurd b
 
 -- ---- the tree in the rows
 
-pub stands_whole : (v : View) (count : ℕ) → Holding (lent v.parents.now v.sorts.now v.places.now v.sets.now) count → Stands v count 0
-stands_whole v count h =
+pub whole_tree : (v : View) (count : ℕ) → Holding (seen_rows v) count → TreeIn v count
+whole_tree v count h =
     let m = few_nodes h.tree h.sound.good in
     let n = h.holds.many in
     record {
       long = record { parents_long = omega (arith, h.room); sorts_long = omega (arith, h.room); places_long = omega (arith, h.room); sets_long = omega (arith, h.room) };
-      few = omega (arith, few_cells h.tree h.sound);
-      below = omega (arith, some_nodes h.tree);
       tree = h.tree;
-      part = holds_part _ count h.tree h.holds;
+      holds = h.holds;
       sound = h.sound;
     }
 

@@ -1,6 +1,10 @@
 -- The whole tree in the draft, from what is done to its smallest part that holds the kind.
-use Rattle.std.proofs.Common.{◌≡◌, ℕ, zero, suc, ◌+◌, ◌-◌, ◌*◌, ◌<◌, ◌≤◌, Bool, true, eqb, Some, None, Option, sym, refl, ◌∙◌, subst, inl, inr, arith}
+use Rattle.std.proofs.Common.{◌≡◌, ℕ, zero, suc, ◌+◌, ◌-◌, ◌*◌, ◌<◌, ◌≤◌, ◌⊎◌, Bool, true, eqb, length, get_or, take, ap, Some, None, Option, sym, refl, ◌∙◌, subst, inl, inr, arith}
+use lib.Bits.{bit_and}
 use lib.Count.{ones}
+use Rattle.std.proofs.lemmas.Bool.{cases_lt}
+use Rattle.std.proofs.lemmas.List.{length-take, get_or-take}
+use Rattle.trees.specs.Checks.{TreeIn}
 use Rattle.finds.specs.Trees.{Tree, none, more}
 use Rattle.finds.specs.Counts.{count_t}
 use Rattle.finds.specs.Sets.{has}
@@ -15,7 +19,7 @@ use Rattle.trees.proofs.Cells.{body_inner, holds_part}
 use Rattle.trees.proofs.Sets.{few_cells}
 use Rattle.trees.proofs.Standing.{stands_size}
 use Rattle.changes.specs.Draft.{Kept, Lies, Rebuilt}
-use Rattle.changes.specs.Splice.{having, Smallest, Shifted, Drawn}
+use Rattle.changes.specs.Splice.{having, LastWith, Smallest, Shifted, Drawn}
 use Rattle.changes.specs.Template.{template}
 use Rattle.changes.proofs.Same.{part_same}
 use Rattle.changes.proofs.Splicing.{Spliced, links, Follows, FoundIn, found_in, having_body}
@@ -49,6 +53,31 @@ rebuilt_none D r p q (made u) b = absurd b
 rebuilt_some : (D : Cells) (r p q e : ℕ) (o : Outcome) → Rebuilt D r p q (Some e) o → (u : Tree) × (o ≡ made u) × Lies D r p q e u
 rebuilt_some D r p q e torn b = absurd b
 rebuilt_some D r p q e (made u) b = (u, refl, b)
+
+-- ---- the smallest part is found, and the cells behind it are read
+
+pub smallest_some : (v : View) (n kind r : ℕ) → 0 < n → n ≤ length v.sets.now → LastWith (take n v.sets.now) kind (having (seen v) kind 0) (Some r) → Smallest (seen v) n kind r
+smallest_some v n kind r some long f =
+    let m : length (take n v.sets.now) ≡ n = simp length-take (omega arith) in
+    let same : (x : ℕ) → x < n → get_or (take n v.sets.now) x 0 ≡ get_or v.sets.now x 0 = λ x l. get_or-take n v.sets.now x 0 l in
+    record {
+      within = omega (arith, f.0);
+      holds = ap (λ (x : ℕ). ones (bit_and x kind)) (sym (same r (omega (arith, f.0)))) ∙ f.1;
+      last = λ x h l e. f.2 x h (omega arith) (ap (λ (y : ℕ). ones (bit_and y kind)) (same x l) ∙ e);
+    }
+
+pub smallest_none : (v : View) (n kind : ℕ) → 0 < n → n ≤ length v.sets.now → LastWith (take n v.sets.now) kind (having (seen v) kind 0) None → ⊥
+smallest_none v n kind some long f =
+    let m : length (take n v.sets.now) ≡ n = simp length-take (omega arith) in
+    f 0 (omega arith) (ap (λ (y : ℕ). ones (bit_and y kind)) (get_or-take n v.sets.now 0 0 some))
+
+-- The parent of each cell is a cell.
+pub tree_parents : {v : View} {n : ℕ} → TreeIn v n → (x : ℕ) → x < n → (seen v).parent x < n
+tree_parents {v} {n} h x l = go (cases_lt 0 x)
+  where
+    go : (0 < x) ⊎ (x ≤ 0) → (seen v).parent x < n
+    go (inl a) = omega (arith, body_inner (seen v) 0 h.tree h.holds.body x a (omega (arith, h.holds.many)))
+    go (inr a) = let e : x ≡ 0 = omega arith in rw e (omega (arith, h.holds.top))
 
 -- ---- the part in the view
 

@@ -1,5 +1,5 @@
 // Rows of its own into which a changed tree is written before the lent rows change.
-ghost use Rattle.std.specs.Prelude.{◌≡◌, ◌+◌, ◌*◌, ◌<◌, count_ones, slice_index};
+ghost use Rattle.std.specs.Prelude.{◌≡◌, ◌+◌, ◌*◌, ◌<◌, count_ones};
 ghost use Rattle.finds.specs.Trees.{Tree, Trees, none, more};
 ghost use Rattle.trees.specs.Subtrees.{Is, set_at};
 ghost use Rattle.changes.specs.Bunches.{weight};

@@ -1,5 +1,5 @@
 // The tree in lent rows, changed for one kind more.
-ghost use Rattle.std.specs.Prelude.{◌≡◌, ◌<◌, ◌≤◌, true, false, bit_and, count_ones};
+ghost use Rattle.std.specs.Prelude.{◌≡◌, ◌<◌, ◌≤◌, true, false, ◌++◌, length, drop, bit_and, count_ones};
 ghost use Rattle.changes.specs.Draft.{drafted, Kept};
 ghost use Rattle.changes.specs.Whole.{Holding, Changes};
 ghost use Rattle.trees.specs.Cells.{held, shortest};
@@ -19,10 +19,18 @@ fn back(draft: &Draft, count: usize, rows: &mut Rows)
     ensures rest { SameFrom count (lent_rows rows.old) (lent_rows rows.new) }
     ensures same { SameSlices rows.old rows.new }
 {
-    rows.parents[..count].copy_from_slice(&draft.parents[..count]);
-    rows.sorts[..count].copy_from_slice(&draft.sorts[..count]);
-    rows.places[..count].copy_from_slice(&draft.places[..count]);
-    rows.sets[..count].copy_from_slice(&draft.sets[..count]);
+    overwrite(rows.parents, &draft.parents[..count]);
+    overwrite(rows.sorts, &draft.sorts[..count]);
+    overwrite(rows.places, &draft.places[..count]);
+    overwrite(rows.sets, &draft.sets[..count]);
+}
+
+// Writes the cells in front of the row.
+fn overwrite<T: Copy>(row: &mut [T], cells: &[T])
+    requires { length cells.now ≤ length row.old }
+    ensures { row.new ≡ cells.now ++ drop (length cells.now) row.old }
+{
+    row[..cells.len()].copy_from_slice(cells);
 }
 
 // Whether the kind lay in fewer than two of these graves, so that it ties nothing together.

@@ -1,6 +1,6 @@
 // The tree of a table's file.
 ghost use Rattle.seriation.specs.Building.{BuiltFrom};
-ghost use Rattle.trees.specs.Cells.{lent};
+ghost use Rattle.trees.specs.Rows.{lent_rows, SameSlices};
 
 use crate::built::Built;
 use crate::growth::grow;
@@ -8,29 +8,20 @@ use tables::reading::read;
 use tables::refusal::Refusal;
 use tables::room::Room;
 use tables::sets::kind_sets;
+use trees::rows::Rows;
 
 // The tree of all orders that fit the table of the file, built up kind after kind in the rows; or that no order fits, with the kind at which this was found; or the first refusal that applies.
-pub fn build(
-    file: &[u8],
-    parents: &mut [u8],
-    sorts: &mut [u8],
-    places: &mut [u8],
-    sets: &mut [u64],
-    kinds: &mut [u64],
-) -> Result<Built, Refusal>
-    ensures { BuiltFrom file.now (lent parents.old sorts.old places.old sets.old) (lent parents.new sorts.new places.new sets.new) kinds.old kinds.new result }
+pub fn build(file: &[u8], rows: &mut Rows, kinds: &mut [u64]) -> Result<Built, Refusal>
+    ensures built { BuiltFrom file.now (lent_rows rows.old) (lent_rows rows.new) kinds.old kinds.new result }
+    ensures same { SameSlices rows.old rows.new }
 {
-    let branches = parents
-        .len()
-        .min(sorts.len())
-        .min(places.len().min(sets.len()));
     let room = Room {
-        branches,
+        branches: rows.room(),
         kinds: kinds.len(),
         colours: usize::MAX,
         rings: usize::MAX,
     };
     let table = read(file, Some(room))?;
     let count = kind_sets(table, kinds);
-    Ok(grow(table.graves, &kinds[0..count], parents, sorts, places, sets))
+    Ok(grow(table.graves, &kinds[..count], rows))
 }

@@ -1,34 +1,29 @@
 // Growing the tree in lent rows, kind after kind.
-ghost use Rattle.std.specs.Prelude.{◌<◌, ◌≤◌};
+ghost use Rattle.std.specs.Prelude.{◌≡◌, ℕ, ◌<◌, ◌≤◌, length, take, drop, slice_index_or};
 ghost use Rattle.seriation.specs.Building.{Grown, Staged, Cleared, Builds};
 ghost use Rattle.tables.specs.Format.{finds_of_sets};
 ghost use Rattle.tables.specs.Room.{branches_for};
-ghost use Rattle.trees.specs.Cells.{lent, shortest};
+ghost use Rattle.trees.specs.Cells.{shortest};
+ghost use Rattle.trees.specs.Rows.{lent_rows, SameSlices};
 
 use crate::built::{Built, Stage};
 use changes::whole::change;
 use trees::first::start;
+use trees::rows::Rows;
 
 // Changes the tree without kinds in the rows for each kind, up to the first with which no order fits.
-fn grow_all(
-    graves: u8,
-    kinds: &[u64],
-    parents: &mut [u8],
-    sorts: &mut [u8],
-    places: &mut [u8],
-    sets: &mut [u64],
-    cells: usize,
-) -> Stage
-    requires room { branches_for graves ≤ shortest (lent parents.old sorts.old places.old sets.old) }
-    requires begun { Grown (finds_of_sets graves kinds.now) 0 cells (lent parents.old sorts.old places.old sets.old) (lent parents.old sorts.old places.old sets.old) }
-    ensures { Staged (finds_of_sets graves kinds.now) result.kinds result.count (lent parents.old sorts.old places.old sets.old) (lent parents.new sorts.new places.new sets.new) }
+fn grow_all(graves: u8, kinds: &[u64], rows: &mut Rows, cells: usize) -> Stage
+    requires room { branches_for graves ≤ shortest (lent_rows rows.old) }
+    requires begun { Grown (finds_of_sets graves kinds.now) 0 cells (lent_rows rows.old) (lent_rows rows.old) }
+    ensures staged { Staged (finds_of_sets graves kinds.now) result.kinds result.count (lent_rows rows.old) (lent_rows rows.new) }
+    ensures same { SameSlices rows.old rows.new }
 {
     let mut count = cells;
-    for i in 0..kinds.len() {
-        match change(parents, sorts, places, sets, count, kinds[i]) {
-            Some(more) => count = more,
-            None => return Stage { kinds: i, count },
-        }
+    for (i, kind) in kinds.iter().enumerate() {
+        let Some(more) = change(rows, count, *kind) else {
+            return Stage { kinds: i, count };
+        };
+        count = more;
     }
     Stage {
         kinds: kinds.len(),
@@ -37,50 +32,41 @@ fn grow_all(
 }
 
 // Empties the cells from count on, up to end.
-fn clear(
-    parents: &mut [u8],
-    sorts: &mut [u8],
-    places: &mut [u8],
-    sets: &mut [u64],
-    count: usize,
-    end: usize,
-)
+fn clear(rows: &mut Rows, count: usize, end: usize)
     requires ordered { count ≤ end }
-    requires room { end ≤ shortest (lent parents.old sorts.old places.old sets.old) }
-    ensures { Cleared count end (lent parents.old sorts.old places.old sets.old) (lent parents.new sorts.new places.new sets.new) }
+    requires room { end ≤ shortest (lent_rows rows.old) }
+    ensures cleared { Cleared count end (lent_rows rows.old) (lent_rows rows.new) }
+    ensures same { SameSlices rows.old rows.new }
 {
-    parents[count..end].fill(0);
-    sorts[count..end].fill(0);
-    places[count..end].fill(0);
-    sets[count..end].fill(0);
+    empty(rows.parents, count, end, 0);
+    empty(rows.sorts, count, end, 0);
+    empty(rows.places, count, end, 0);
+    empty(rows.sets, count, end, 0);
+}
+
+// Writes nothing into the cells of a row from `from` on, up to `to`.
+fn empty<T: Copy>(row: &mut [T], from: usize, to: usize, nothing: T)
+    requires { (from ≤ to) × (to ≤ length row.old) }
+    ensures below { take from row.new ≡ take from row.old }
+    ensures empty { (x : ℕ) → from ≤ x → x < to → slice_index_or row.new x nothing ≡ nothing }
+    ensures rest { drop to row.new ≡ drop to row.old }
+{
+    row[from..to].fill(nothing);
 }
 
 // The tree of all orders that fit the kinds, built up in the rows kind after kind; or that none fits.
-pub fn grow(
-    graves: u8,
-    kinds: &[u64],
-    parents: &mut [u8],
-    sorts: &mut [u8],
-    places: &mut [u8],
-    sets: &mut [u64],
-) -> Built
+pub fn grow(graves: u8, kinds: &[u64], rows: &mut Rows) -> Built
     requires some { 1 ≤ graves }
     requires few { graves ≤ 64 }
-    requires room { branches_for graves ≤ shortest (lent parents.old sorts.old places.old sets.old) }
-    ensures { Builds (finds_of_sets graves kinds.now) (lent parents.old sorts.old places.old sets.old) (lent parents.new sorts.new places.new sets.new) result }
+    requires room { branches_for graves ≤ shortest (lent_rows rows.old) }
+    ensures builds { Builds (finds_of_sets graves kinds.now) (lent_rows rows.old) (lent_rows rows.new) result }
+    ensures same { SameSlices rows.old rows.new }
 {
-    let Some(cells) = start(graves, parents, sorts, places, sets) else {
-        unreachable()
+    let Some(cells) = start(graves, rows) else {
+        unreachable!()
     };
-    let stage = grow_all(graves, kinds, parents, sorts, places, sets, cells);
-    clear(
-        parents,
-        sorts,
-        places,
-        sets,
-        stage.count,
-        2 * graves as usize - 1,
-    );
+    let stage = grow_all(graves, kinds, rows, cells);
+    clear(rows, stage.count, 2 * graves as usize - 1);
     if stage.kinds < kinds.len() {
         return Built::NoOrder { kind: stage.kinds };
     }

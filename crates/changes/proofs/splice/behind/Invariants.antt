@@ -5,4 +5,4 @@ use Rattle.changes.proofs.splice.behind.Given as goal
 
 abbrev pub invariant-loop-x : goal.invariant-loop-x
 invariant-loop-x l =
-    Kept (drafted l.initial.draft) (drafted l.draft) l.at × Shifted (seen l.view) (drafted l.draft) l.end l.x l.at
+    Kept (drafted l.initial.draft) (drafted l.draft) l.at × Shifted (seen l.tree.rows) (drafted l.draft) l.end l.x l.at

@@ -1,31 +1,42 @@
-use Rattle.std.proofs.Common.{arith}
+use Rattle.std.proofs.Common.{sym, subst, Some, None, arith}
+use Rattle.trees.specs.Cells.{Lent, held, Holds}
+use Rattle.trees.specs.Rows.{lent_rows}
+use Rattle.trees.proofs.Writing.{same_room}
 use Rattle.changes.specs.Draft.{drafted}
-use Rattle.trees.specs.Cells.{lent}
-use Rattle.changes.proofs.Changing.{stands_whole, first_set, few_changes, none_changes, made_cells, made_changes}
+use Rattle.changes.specs.Whole.{Holding}
+use Rattle.changes.proofs.Changing.{whole_tree, first_set, few_changes, none_changes, made_cells, made_changes}
 use Rattle.changes.proofs.whole.change.Goals as goal
 
-pub bounds-sets-0 : goal.bounds-sets-0
-bounds-sets-0 c = first_set c.requires c.args.kind
+pub bounds-rows-0 : goal.bounds-rows-0
+bounds-rows-0 c = first_set c.requires c.args.kind
 
-pub returns-then-ties_nothing : goal.returns-then-ties_nothing
-returns-then-ties_nothing c = few_changes c.requires c.args.kind (c.ties_nothing.ensures.few c.if-ties_nothing.true)
+pub returns-then-ties_nothing-clause-changes : goal.returns-then-ties_nothing-clause-changes
+returns-then-ties_nothing-clause-changes c = few_changes c.requires c.args.kind (c.ties_nothing.ensures.few c.if-ties_nothing.true)
 
-pub redraw-requires-clause-stands : goal.redraw-requires-clause-stands
-redraw-requires-clause-stands c = stands_whole _ c.args.count c.requires
+pub invariant_of-tree : goal.invariant_of-tree
+invariant_of-tree c = record { holds = ∣ whole_tree c.view.result c.args.count (subst (λ (r : Lent). Holding r c.args.count) (sym c.view.ensures) c.requires) ∣₁ }
 
-pub returns-in_default : goal.returns-in_default
-returns-in_default c =
-    none_changes c.requires c.args.kind (c.ties_nothing.ensures.many c.if-ties_nothing.false) (drafted c.redraw.new.draft) c.in_default.ensures
+pub returns-in_err-count-clause-changes : goal.returns-in_err-count-clause-changes
+returns-in_err-count-clause-changes c =
+    rw c.from_residual.ensures
+    (none_changes c.requires c.args.kind (c.ties_nothing.ensures.many c.if-ties_nothing.false) (drafted c.redraw.new.draft)
+    (λ t h. c.in_err-count.ensures t (subst (λ (r : Lent). Holds (held r) c.args.count t) (sym c.view.ensures) h)))
 
-pub back-requires : goal.back-requires
-back-requires c =
-    let m = made_cells c.requires c.args.kind (c.ties_nothing.ensures.many c.if-ties_nothing.false) (drafted c.redraw.new.draft) c.in-Some.count c.in-Some.ensures in
-    record { room = omega arith; long = omega arith }
+pub back-requires-clause-room : goal.back-requires-clause-room
+back-requires-clause-room c =
+    omega (arith, made_cells c.requires c.args.kind (c.ties_nothing.ensures.many c.if-ties_nothing.false) (drafted c.redraw.new.draft) c.in_ok-count.count
+    (λ t h. c.in_ok-count.ensures t (subst (λ (r : Lent). Holds (held r) c.args.count t) (sym c.view.ensures) h)))
 
-pub returns : goal.returns
-returns c =
-    made_changes c.requires c.args.kind (c.ties_nothing.ensures.many c.if-ties_nothing.false) (drafted c.redraw.new.draft) c.in-Some.count c.in-Some.ensures
-    (lent c.back.new.parents c.back.new.sorts c.back.new.places c.back.new.sets)
+pub back-requires-clause-long : goal.back-requires-clause-long
+back-requires-clause-long c =
+    omega (arith, c.requires.room, made_cells c.requires c.args.kind (c.ties_nothing.ensures.many c.if-ties_nothing.false) (drafted c.redraw.new.draft) c.in_ok-count.count
+    (λ t h. c.in_ok-count.ensures t (subst (λ (r : Lent). Holds (held r) c.args.count t) (sym c.view.ensures) h)))
+
+pub returns-clause-changes : goal.returns-clause-changes
+returns-clause-changes c =
+    made_changes c.requires c.args.kind (c.ties_nothing.ensures.many c.if-ties_nothing.false) (drafted c.redraw.new.draft) c.in_ok-count.count
+    (λ t h. c.in_ok-count.ensures t (subst (λ (r : Lent). Holds (held r) c.args.count t) (sym c.view.ensures) h))
+    (lent_rows c.back.new.rows)
     c.back.ensures.kept
     c.back.ensures.rest
-    (let p = c.back.auto.parents in let s = c.back.auto.sorts in let q = c.back.auto.places in let m = c.back.auto.sets in omega arith)
+    (same_room c.back.ensures.same)
