@@ -1,5 +1,5 @@
 -- The partial branches and the full ones, bound together as a program does it.
-use Rattle.std.proofs.Common.{◌≡◌, ℕ, ◌+◌, ◌-◌, ◌*◌, ◌<◌, ◌≤◌, Bool, true, false, cond, List, length, get_or, drop, Some, None, Option, sym, refl, ap, ◌∙◌, arith}
+use Rattle.std.proofs.Common.{◌≡◌, ℕ, ◌+◌, ◌*◌, ◌<◌, ◌≤◌, Bool, true, false, cond, List, length, get_or, drop, Some, None, Option, sym, refl, ap, ◌∙◌, arith}
 use lib.Bits.{bit_or}
 use lib.Count.{ones}
 use Rattle.finds.specs.Trees.{Tree, any, Trees, none, more, Goods, len}

@@ -1,6 +1,6 @@
 -- What a call says of the parts that were passed to it, said of the rows and cells they lie in.
-use Rattle.std.proofs.Common.{◌≡◌, ℕ, ◌+◌, Bool, false, List, get_or, take, drop, Option, ap, ◌∙◌}
-use Rattle.finds.specs.Trees.{Tree, Trees}
+use Rattle.std.proofs.Common.{ℕ, Bool, false, List, get_or, take, drop, Option, ap, ◌∙◌}
+use Rattle.finds.specs.Trees.{Trees}
 use Rattle.pqtree.specs.Opening.{group as as_one, open_row}
 use Rattle.trees.specs.Cells as cells
 use Rattle.trees.specs.Cells.{Cells, Sounds}

@@ -1,5 +1,5 @@
 -- Branches in a row, changed as a program does it: those without the kind, the first one with it, the rest.
-use Rattle.std.proofs.Common.{◌≡◌, ℕ, zero, suc, ◌+◌, ◌-◌, ◌*◌, ◌<◌, ◌≤◌, Bool, true, false, List, length, get_or, take, drop, Some, None, Option, sym, refl, ap, ◌∙◌, add-one, arith}
+use Rattle.std.proofs.Common.{◌≡◌, ℕ, zero, suc, ◌+◌, ◌*◌, ◌<◌, ◌≤◌, Bool, true, false, List, length, get_or, take, drop, Some, None, Option, sym, refl, ap, ◌∙◌, add-one, arith}
 use lib.Count.{ones}
 use Rattle.finds.specs.Trees.{Tree, grave, any, row, Trees, none, more, Good, len}
 use Rattle.finds.specs.Sets.{has}

@@ -1,4 +1,4 @@
-use Rattle.std.proofs.Common.{ℕ, ◌+◌, ◌*◌, ◌≤◌, List, sym, refl, ◌∙◌, arith}
+use Rattle.std.proofs.Common.{ℕ, ◌*◌, List, sym, refl, ◌∙◌, arith}
 use Rattle.std.proofs.lemmas.Bool.{eqb-true, eqb-false}
 use Rattle.finds.specs.Sets.{has}
 use Rattle.pqtree.specs.Status.{part, full, sel}

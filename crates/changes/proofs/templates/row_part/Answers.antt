@@ -1,4 +1,4 @@
-use Rattle.std.proofs.Common.{ℕ, ◌+◌, ◌*◌, ◌<◌, ◌∙◌, false, List, length, get_or, Some, arith}
+use Rattle.std.proofs.Common.{ℕ, ◌+◌, ◌*◌, ◌∙◌, false, List, length, get_or, Some, arith}
 use lib.Count.{ones}
 use Rattle.finds.specs.Sets.{has}
 use Rattle.trees.specs.Cells.{kids}
