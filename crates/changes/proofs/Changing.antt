@@ -8,12 +8,12 @@ use Rattle.pqtree.specs.Change.{Outcome, torn, made, if_two, change, step}
 use Rattle.pqtree.specs.Theorems.{Stands as StandsFor}
 use Rattle.pqtree.proofs.Change.{step_size}
 use Rattle.pqtree.proofs.Exact.{step_exact}
-use Rattle.trees.specs.Cells.{size, Sound, Cells, Lent, lent, held, shortest, Holds}
+use Rattle.trees.specs.Cells.{size, Sound, Cells, Lent, held, shortest, Holds}
 use Rattle.trees.specs.Checks.{TreeIn}
 use Rattle.trees.specs.Rows.{seen_rows}
 use Rattle.trees.specs.Starting.{SameFrom}
 use Rattle.trees.specs.declared.rows.View.{View}
-use Rattle.trees.proofs.Cells.{some_nodes, few_nodes, holds_part}
+use Rattle.trees.proofs.Cells.{some_nodes, few_nodes}
 use Rattle.trees.proofs.Sets.{few_cells}
 use Rattle.changes.specs.Draft.{Kept}
 use Rattle.changes.specs.Splice.{having, Drawn}

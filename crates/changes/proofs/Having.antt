@@ -1,12 +1,12 @@
 -- Parts of a tree that are only known to stand in cells can be had, one by one.
-use Rattle.std.proofs.Common.{◌≡◌, ℕ, ◌+◌, ◌≤◌, eqb, true, List, [], ◌∷◌, refl, sym, ap, ◌∙◌, arith}
+use Rattle.std.proofs.Common.{◌≡◌, ℕ, ◌+◌, ◌≤◌, eqb, true, List, [], ◌∷◌, refl, ap, arith}
 use mathlib.Core.Logic.{∥∥₁_elim, ∥∥₁_map}
 use Rattle.std.specs.Coded.{le_prop}
 use Rattle.finds.specs.Counts.{count_t, count_ts}
 use Rattle.finds.specs.Sets.{bit}
 use Rattle.finds.specs.Trees.{Tree, Trees, none, more, Goods}
 use Rattle.trees.specs.Cells.{Cells, Part, Parts, Sound, Sounds}
-use Rattle.trees.specs.Rows.{seen, Long, Stands}
+use Rattle.trees.specs.Rows.{seen, Stands}
 use Rattle.trees.specs.declared.rows.View.{View}
 use Rattle.trees.proofs.Cells.{some_nodes, body_set}
 use Rattle.trees.proofs.Finding.{had_standing}

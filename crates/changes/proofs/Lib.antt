@@ -14,6 +14,7 @@ pub mod Layouts
 pub mod Keeping
 pub mod Openings
 pub mod Laying
+pub mod Passing
 pub mod RowParts
 pub mod Rebuilding
 pub mod Middles

@@ -1,8 +1,7 @@
 -- The partial branches and the full ones, bound together as a program does it.
-use Rattle.std.proofs.Common.{◌≡◌, ℕ, ◌+◌, ◌-◌, ◌*◌, ◌<◌, ◌≤◌, Bool, true, false, cond, List, length, get_or, take, drop, Some, None, Option, sym, refl, ap, ◌∙◌, arith}
+use Rattle.std.proofs.Common.{◌≡◌, ℕ, ◌+◌, ◌*◌, ◌<◌, ◌≤◌, Bool, true, false, cond, List, length, get_or, drop, Some, None, Option, sym, refl, ap, ◌∙◌, arith}
 use lib.Bits.{bit_or}
 use lib.Count.{ones}
-use Rattle.std.proofs.lemmas.List.{take_rest}
 use Rattle.finds.specs.Trees.{Tree, any, Trees, none, more, Goods, len}
 use Rattle.finds.specs.Branches.{◌+++◌}
 use Rattle.finds.specs.Sets.{has}
@@ -10,9 +9,10 @@ use Rattle.finds.proofs.Counts.{count_ts_plus}
 use Rattle.pqtree.specs.Status.{part, full, few, sel}
 use Rattle.pqtree.specs.Change.{made, as_row, cut_middle}
 use Rattle.pqtree.specs.Opening.{Opening, stuck, laid, ◌⊞◌, group, open_up, open_all, open_row}
-use Rattle.pqtree.proofs.Chosen.{Are, sel_are, sel_goods}
+use Rattle.pqtree.proofs.Chosen.{Are as AllOf, sel_are, sel_goods}
 use Rattle.pqtree.proofs.Computed.{sorted_parts, cut_middle_is}
-use Rattle.trees.specs.Cells.{size, sizes, sets_of, Cells, Parts, Sound, Sounds}
+use Rattle.trees.specs.Cells as cells
+use Rattle.trees.specs.Cells.{size, sizes, sets_of, Cells, Sound, Sounds}
 use Rattle.trees.specs.Rows.{seen}
 use Rattle.trees.specs.declared.rows.View.{View}
 use Rattle.trees.proofs.Allowing.{good_size, goods_len}
@@ -20,7 +20,9 @@ use Rattle.trees.proofs.Cells.{parts_len}
 use Rattle.trees.proofs.Sets.{sets_plus}
 use Rattle.trees.proofs.Standing.{part_size}
 use Rattle.changes.specs.declared.draft.Spot.{Spot}
+use Rattle.changes.specs.declared.parts.Parts.{Parts}
 use Rattle.changes.specs.Bunches.{AllStand, weight}
+use Rattle.changes.specs.Parts.{Are}
 use Rattle.changes.specs.Draft.{Kept}
 use Rattle.changes.specs.Shares.{union_of}
 use Rattle.changes.specs.Written.{Room, Wrote, Opened, laid_at}
@@ -40,7 +42,7 @@ laid_middle k none fs = stuck
 laid_middle k (more p ps) fs = open_up k true p ⊞ (laid (group fs) ⊞ open_row k false ps)
 
 -- That more than one partial branch more cannot be laid open, the sequence of them tells.
-pub middle_is : (k : ℕ → Bool) (ps fs : Trees) → 0 < len ps → Are k part ps → Goods fs → Are k full fs → cut_middle k ps fs ≡ as_row (laid_middle k ps fs)
+pub middle_is : (k : ℕ → Bool) (ps fs : Trees) → 0 < len ps → AllOf k part ps → Goods fs → AllOf k full fs → cut_middle k ps fs ≡ as_row (laid_middle k ps fs)
 middle_is k none fs l a g c = absurd (omega arith)
 middle_is k (more p ps) fs l a g c =
     cut_middle_is k p ps fs a.0 a.1 g c ∙ ap (λ (o : Opening). as_row (open_up k true p ⊞ o)) (rw (sorted_parts k false ps a.1) (go (few ps)))
@@ -66,23 +68,35 @@ keeps_middle k (more p ps) fs g h =
     (keeps_plus (open_up k true p) (laid (group fs) ⊞ open_row k false ps) (more p none) (fs +++ ps) (keeps_up k true p g.0)
     (keeps_plus (laid (group fs)) (open_row k false ps) fs ps (same_group fs h) (keeps_row k false ps g.1)))
 
-pub middle_set : (v : View) (n a b : ℕ) (cs ds : List ℕ) (ps fs : Trees) → Parts (seen v) n cs ps → Parts (seen v) n ds fs → a ≡ union_of v.sets.now ds → b ≡ union_of v.sets.now cs → bit_or a b ≡ sets_of (fs +++ ps)
-middle_set v n a b cs ds ps fs p q e f = rw (e ∙ parts_union v n ds fs q, f ∙ parts_union v n cs ps p) (sym (sets_plus fs ps))
+pub middle_set : (a b : ℕ) (partials fulls : Parts) (ps fs : Trees) → Are partials ps → Are fulls fs → a ≡ union_of fulls.rows.sets.now fulls.cells.now → b ≡ union_of partials.rows.sets.now partials.cells.now → bit_or a b ≡ sets_of (fs +++ ps)
+middle_set a b partials fulls ps fs p q e f = rw (e ∙ parts_union fulls.rows _ _ fs q, f ∙ parts_union partials.rows _ _ ps p) (sym (sets_plus fs ps))
 
--- ---- by the cells of the branches
+-- ---- by the partial branches and the full ones
 
--- The partial branches, of which there is one, have their roots in the cells cs, and the full ones in the cells ds.
-module _ (v : View) (n m : ℕ) (cs ds : List ℕ) (l : 0 < length cs) where
+-- There is a partial branch.
+module _ (m : ℕ) (partials fulls : Parts) (l : 0 < length partials.cells.now) where
+  abbrev v : View
+  v = partials.rows
+
+  abbrev n : ℕ
+  n = partials.count
+
+  abbrev cs : List ℕ
+  cs = partials.cells.now
+
+  abbrev full_weight : ℕ
+  full_weight = weight fulls.rows.sets.now fulls.cells.now
+
   abbrev pub rest : List ℕ
-  rest = take (length cs - 1) (drop 1 cs)
+  rest = drop 1 cs
 
-  rest_parts : (ps : Trees) → Parts (seen v) n cs ps → Parts (seen v) n rest (back 1 ps)
-  rest_parts ps p = rw (take_rest cs 1) (parts_back (seen v) n cs ps 1 p)
+  rest_parts : (ps : Trees) → Are partials ps → cells.Parts (seen v) n rest (back 1 ps)
+  rest_parts ps p = parts_back (seen v) n cs ps 1 p
 
-  some : (ps : Trees) → Parts (seen v) n cs ps → 0 < len ps
+  some : (ps : Trees) → Are partials ps → 0 < len ps
   some ps p = omega (arith, parts_len (seen v) n cs ps p)
 
-  one_there : {R : Cells} {at : Spot} {r : Option Spot} → Found v n m (get_or cs 0 0) R at r → (ps : Trees) → Parts (seen v) n cs ps → Sounds ps → Opened R at r (open_up (has m) true (tree_at 0 ps))
+  one_there : {R : Cells} {at : Spot} {r : Option Spot} → Found v n m (get_or cs 0 0) R at r → (ps : Trees) → Are partials ps → Sounds ps → Opened R at r (open_up (has m) true (tree_at 0 ps))
   one_there o ps p q = o (has m) true (mask_has m) (tree_at 0 ps) (part_at (seen v) n cs ps 0 p l) (sound_at ps 0 q (some ps p))
 
   is_laid : (ps fs : Trees) → 0 < len ps → laid_middle (has m) ps fs ≡ open_up (has m) true (tree_at 0 ps) ⊞ (laid (group fs) ⊞ open_row (has m) false (back 1 ps))
@@ -90,14 +104,14 @@ module _ (v : View) (n m : ℕ) (cs ds : List ℕ) (l : 0 < length cs) where
   is_laid (more p ps) fs h = refl
 
   -- The first one cannot be laid open.
-  pub middle_stuck : {R : Cells} {at : Spot} → Found v n m (get_or cs 0 0) R at None → (ps fs : Trees) → Parts (seen v) n cs ps → Sounds ps → Opened R at None (laid_middle (has m) ps fs)
+  pub middle_stuck : {R : Cells} {at : Spot} → Found v n m (get_or cs 0 0) R at None → (ps fs : Trees) → Are partials ps → Sounds ps → Opened R at None (laid_middle (has m) ps fs)
   middle_stuck o ps fs p q = rw (is_laid ps fs (some ps p)) (opened_not (laid (group fs) ⊞ open_row (has m) false (back 1 ps)) (one_there o ps p q))
 
   -- It is laid open, the full ones are written as one branch, and r is what comes of the rest, laid open the other way.
   pub middle_opened : {R S T : Cells} {at next mid : Spot} {r : Option Spot} → Found v n m (get_or cs 0 0) R at (Some next) → Kept R S next.cell →
-      ((us : Trees) → Parts (seen v) n ds us → Wrote S next mid (group us)) → Kept S T mid.cell →
-      ((us : Trees) → Parts (seen v) n rest us → Sounds us → Opened T mid r (open_row (has m) false us)) →
-      (ps fs : Trees) → Parts (seen v) n cs ps → Sounds ps → Parts (seen v) n ds fs → Opened T at r (laid_middle (has m) ps fs)
+      ((us : Trees) → Are fulls us → Wrote S next mid (group us)) → Kept S T mid.cell →
+      ((us : Trees) → cells.Parts (seen v) n rest us → Sounds us → Opened T mid r (open_row (has m) false us)) →
+      (ps fs : Trees) → Are partials ps → Sounds ps → Are fulls fs → Opened T at r (laid_middle (has m) ps fs)
   middle_opened o h w j others ps fs p q u =
       let g = w fs u in
       rw (is_laid ps fs (some ps p))
@@ -121,28 +135,28 @@ module _ (v : View) (n m : ℕ) (cs ds : List ℕ) (l : 0 < length cs) where
     all_size : weight v.sets.now cs ≡ size p + sizes (back 1 s.trees)
     all_size = let a = parts_weight v n cs s.trees s.parts s.sound in let b = three_sizes 0 s.trees (some s.trees s.parts) in omega arith
 
-    module _ (z : AllStand v n ds) {at : Spot} (r : Room at (2 * (weight v.sets.now cs + weight v.sets.now ds))) where
+    module _ (z : AllStand fulls.rows fulls.count fulls.cells.now) {at : Spot} (r : Room at (2 * (weight v.sets.now cs + full_weight))) where
       -- Another branch has a grave too.
-      pub room_one : 2 ≤ length cs + length ds → Room at (2 * ones (get_or v.sets.now (get_or cs 0 0) 0) + 1)
+      pub room_one : 2 ≤ length cs + length fulls.cells.now → Room at (2 * ones (get_or v.sets.now (get_or cs 0 0) 0) + 1)
       room_one two =
-          let a = stand_weight v n ds z in
+          let a = stand_weight _ _ _ z in
           let b = goods_len (back 1 s.trees) (sounds_back 1 s.trees s.sound).good in
           let c = three_len 0 s.trees (some s.trees s.parts) in
           let d = parts_len (seen v) n cs s.trees s.parts in
           room_less _ _ (omega (arith, p_size, all_size)) r
 
       module _ {R : Cells} {next : Spot} (o : Found v n m (get_or cs 0 0) R at (Some next)) where
-        room_two : Room next (2 * (sizes (back 1 s.trees) + weight v.sets.now ds) + 1)
+        room_two : Room next (2 * (sizes (back 1 s.trees) + full_weight) + 1)
         room_two =
             opened_room_more (more p none) _ _ (one_there o s.trees s.parts s.sound) (keeps_up (has m) true p p_sound.good) (omega (arith, good_size p p_sound.good)) (omega (arith, all_size)) r
 
-        pub room_fulls : Room next (2 * weight v.sets.now ds + 1)
+        pub room_fulls : Room next (2 * full_weight + 1)
         room_fulls = room_less _ _ (omega arith) room_two
 
         pub kept_one : {Q S : Cells} → Kept Q R at.cell → Kept R S next.cell → Kept Q S at.cell
         kept_one h j = kept_trans h (opened_on (one_there o s.trees s.parts s.sound)) j
 
-        module _ {S : Cells} {mid : Spot} (w : (us : Trees) → Parts (seen v) n ds us → Wrote S next mid (group us)) where
+        module _ {S : Cells} {mid : Spot} (w : (us : Trees) → Are fulls us → Wrote S next mid (group us)) where
           pub kept_two : {Q T : Cells} → Kept Q R at.cell → Kept R S next.cell → Kept S T mid.cell → Kept Q T at.cell
           kept_two h j a = kept_one h (kept_trans j (wrote_on _ (w z.trees z.parts)) a)
 
@@ -151,6 +165,6 @@ module _ (v : View) (n m : ℕ) (cs ds : List ℕ) (l : 0 < length cs) where
               let fs = z.trees in
               let g = same_group fs z.sound.good in
               let a = same_sizes (group fs) fs g in
-              let b = parts_weight v n ds fs z.parts z.sound in
+              let b = parts_weight fulls.rows _ _ fs z.parts z.sound in
               let c = parts_weight v n rest (back 1 s.trees) (rest_parts s.trees s.parts) (sounds_back 1 s.trees s.sound) in
               room_after (group fs) _ _ (w fs z.parts) g.good (omega arith) room_two

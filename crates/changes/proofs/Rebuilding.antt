@@ -1,9 +1,10 @@
 -- The changed part: a cell with its branches behind it, or none.
-use Rattle.std.proofs.Common.{◌≡◌, ℕ, ◌+◌, ◌≤◌, Some, None, sym, ◌∙◌, arith}
-use Rattle.finds.specs.Trees.{Trees}
+use Rattle.std.proofs.Common.{◌≡◌, ℕ, ◌+◌, ◌≤◌, Bool, Some, None, sym, ◌∙◌, arith}
+use Rattle.finds.specs.Trees.{Tree, grave, any, row, Trees}
 use Rattle.pqtree.specs.Change.{as_row}
 use Rattle.pqtree.specs.Opening.{Opening}
-use Rattle.trees.specs.Cells.{sets_of, Cells}
+use Rattle.pqtree.specs.Status.{heavy}
+use Rattle.trees.specs.Cells.{sets_of, kids, Cells, Body}
 use Rattle.changes.specs.declared.draft.Spot.{Spot}
 use Rattle.changes.specs.Draft.{Kept, Rebuilt}
 use Rattle.changes.specs.Written.{first_in, Headed, Room, Opened, not_laid, laid_at}
@@ -20,3 +21,9 @@ rebuilt_none at not_laid = tt
 pub rebuilt_row : {R S : Cells} (at : Spot) {first end : Spot} {o : Opening} {m : ℕ} (ts : Trees) → first ≡ first_in at → Kept R S first.cell → Headed R at 2 m → m ≡ sets_of ts → Keeps o ts →
     Opened S first (Some end) o → Rebuilt S at.cell at.parent at.place (Some end.cell) (as_row o)
 rebuilt_row at ts i k h e g (laid_at {us = us} w) = lies_row at i k us (e ∙ sym (same_sets us ts g)) w h
+
+-- A tree of which two branches have something of the kind is a row, if its branches are not in any order.
+pub is_row : (R : Cells) (i : ℕ) (k : ℕ → Bool) (t : Tree) → Body R i t → 2 ≤ heavy k (kids t) → (1 ≡ R.sort i → ⊥) → R.sort i ≡ 2
+is_row R i k (grave g) b h n = absurd (omega (arith, h))
+is_row R i k (any ts) b h n = absurd (n (omega (arith, b.0)))
+is_row R i k (row ts) b h n = omega (arith, b.0)

@@ -1,7 +1,6 @@
 -- Branches in a row, changed as a program does it: those without the kind, the first one with it, the rest.
-use Rattle.std.proofs.Common.{◌≡◌, ℕ, zero, suc, ◌+◌, ◌-◌, ◌*◌, ◌<◌, ◌≤◌, Bool, true, false, List, length, get_or, take, drop, Some, None, Option, sym, refl, ap, ◌∙◌, add-one, arith}
+use Rattle.std.proofs.Common.{◌≡◌, ℕ, zero, suc, ◌+◌, ◌*◌, ◌<◌, ◌≤◌, Bool, true, false, List, length, get_or, take, drop, Some, None, Option, sym, refl, ap, ◌∙◌, add-one, arith}
 use lib.Count.{ones}
-use Rattle.std.proofs.lemmas.List.{take_rest}
 use Rattle.finds.specs.Trees.{Tree, grave, any, row, Trees, none, more, Good, len}
 use Rattle.finds.specs.Sets.{has}
 use Rattle.pqtree.specs.Status.{Status, bare, part, full, status}
@@ -101,13 +100,13 @@ module _ (v : View) (n i m : ℕ) (u : ArrayVec ℕ) (cs : List ℕ) (f : cs ≡
   before = take x cs
 
   abbrev pub behind : List ℕ
-  behind = take (length cs - (x + 1)) (drop (x + 1) cs)
+  behind = drop (x + 1) cs
 
   before_parts : (t : Tree) → Part (seen v) n i t → Parts (seen v) n before (front x (kids t))
   before_parts t p = parts_front (seen v) n cs (kids t) x (parts t p)
 
   behind_parts : (t : Tree) → Part (seen v) n i t → Parts (seen v) n behind (back (x + 1) (kids t))
-  behind_parts t p = rw (take_rest cs (x + 1)) (parts_back (seen v) n cs (kids t) (x + 1) (parts t p))
+  behind_parts t p = parts_back (seen v) n cs (kids t) (x + 1) (parts t p)
 
   -- The first ones are copied, and the next one has the kind.
   module _ (l : x < length cs) {R : Cells} {at mid : Spot} (w : (ts : Trees) → Parts (seen v) n before ts → Wrote R at mid ts) where

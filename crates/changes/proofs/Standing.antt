@@ -1,21 +1,18 @@
 -- Lists of cells at which sound trees stand: what they weigh, and each of them.
 use Rattle.std.proofs.Common.{◌≡◌, ℕ, zero, suc, ◌+◌, ◌*◌, ◌<◌, ◌≤◌, List, [], ◌∷◌, length, get_or, take, drop, refl, arith}
 use lib.Count.{ones}
-use Rattle.arrayvec.specs.ArrayVec.{ArrayVec}
 use Rattle.std.specs.List.{All}
-use Rattle.finds.specs.Trees.{Tree, any, Trees, none, more, len, Goods}
+use Rattle.finds.specs.Trees.{any, Trees, none, more, len, Goods}
 use Rattle.pqtree.specs.Opening.{group}
-use Rattle.trees.specs.Cells.{sizes, sets_of, kids, Cells, Part, Parts, Sounds}
+use Rattle.trees.specs.Cells.{sizes, sets_of, Cells, Parts, Sounds}
 use Rattle.trees.specs.Rows.{seen, Stands}
 use Rattle.trees.specs.declared.rows.View.{View}
-use Rattle.trees.proofs.Cells.{some_nodes, len_nodes, all_few_nodes, body_set, kids_parts, parts_len}
+use Rattle.trees.proofs.Cells.{some_nodes, len_nodes, all_few_nodes, body_set, parts_len}
 use Rattle.trees.proofs.Allowing.{goods_len}
 use Rattle.trees.proofs.Standing.{part_size}
-use Rattle.trees.proofs.Sets.{sound_kids, sounds_first, sounds_rest, few_branches}
-use Rattle.trees.specs.Walks.{Listed}
+use Rattle.trees.proofs.Sets.{sounds_first, sounds_rest, few_branches}
 use Rattle.changes.specs.declared.draft.Spot.{Spot}
 use Rattle.changes.specs.Bunches.{AllStand, weight}
-use Rattle.changes.specs.Layouts.{Bunched}
 use Rattle.changes.specs.Shares.{union_of}
 use Rattle.changes.specs.Written.{Room, Wrote}
 use Rattle.changes.proofs.Fronts.{front, back, parts_front, parts_back, sounds_front, sounds_back, tree_at, front_size, front_goods, part_at, sound_at}

@@ -1,8 +1,7 @@
 -- Loops over some parts of a tree.
-use Rattle.std.proofs.Common.{◌≡◌, ℕ, ◌+◌, ◌<◌, ◌≤◌, List, [], ◌∷◌, length, get_or, drop, sym, refl, ap, ◌∙◌, subst, add-zero, arith}
+use Rattle.std.proofs.Common.{◌≡◌, ℕ, ◌+◌, ◌<◌, ◌≤◌, List, [], length, get_or, drop, sym, refl, ap, ◌∙◌, subst, add-zero, arith}
 use Rattle.std.proofs.lemmas.List.{get_or-drop, drop-drop, length-drop}
-use Rattle.finds.specs.Trees.{Tree, Trees}
-use Rattle.trees.specs.Cells as cells
+use Rattle.finds.specs.Trees.{Tree}
 use Rattle.trees.specs.Cells.{Part}
 use Rattle.trees.specs.Rows.{seen}
 use Rattle.trees.specs.Subtrees.{Is, set_at}

@@ -1,7 +1,5 @@
 -- What is read from the sets of cells: how much of a mask they have, and their union.
 use Rattle.std.specs.Prelude.{◌≡◌, ℕ, ◌<◌, ◌≤◌, Bool, true, false, cond, List, [], ◌∷◌, length, ◌==◌, ◌≢◌, Some, None, Option, bit_and, bit_or, count_ones, slice_index}
-use denote.Enum.Bare.{sameb}
-use Rattle.changes.specs.contracts.shares.Share.{the_type}
 use Rattle.changes.specs.declared.shares.Share.{Share}
 use Rattle.changes.specs.declared.shares.Share.TheVariants.{Empty, Partial, Full}
 
@@ -9,9 +7,17 @@ use Rattle.changes.specs.declared.shares.Share.TheVariants.{Empty, Partial, Full
 abbrev pub share : ℕ → ℕ → Share
 share s m = cond (count_ones (bit_and s m) == 0) Empty (cond (count_ones (bit_and s m) == count_ones s) Full Partial)
 
--- Whether two shares are the same: what the derived `==` tells.
+-- Whether two shares are the same.
 abbrev pub alike : Share → Share → Bool
-alike = sameb the_type
+alike Empty Empty = true
+alike Empty Partial = false
+alike Empty Full = false
+alike Partial Empty = false
+alike Partial Partial = true
+alike Partial Full = false
+alike Full Empty = false
+alike Full Partial = false
+alike Full Full = true
 
 -- Whether the cell c has this share of the mask m, in the row ms of sets.
 abbrev pub has_share : List ℕ → ℕ → Share → ℕ → Bool

@@ -122,9 +122,7 @@ fn first_not_empty(sets: &[u64], cells: &[u8], mask: u64) -> Option<usize>
     requires { All (λ c. c < length sets.now) cells.now }
     ensures { FirstWith sets.now mask cells.now result }
 {
-    cells
-        .iter()
-        .position(|cell| share_of(sets[*cell as usize], mask) != Share::Empty)
+    cells.iter().position(|cell| share_of(sets[*cell as usize], mask) != Share::Empty)
 }
 
 // The sets of the cells together.

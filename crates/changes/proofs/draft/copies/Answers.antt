@@ -1,5 +1,4 @@
-use Rattle.std.proofs.Common.{◌+◌, subst, ap, ◌∙◌, arith}
-use lib.Count.{ones}
+use Rattle.std.proofs.Common.{◌+◌, subst, arith}
 use Rattle.trees.proofs.Cells.{parts_len}
 use Rattle.changes.specs.Written.{Wrote}
 use Rattle.changes.proofs.Fronts.{front_all, part_at}

@@ -1,24 +1,17 @@
 use lib.Count.{ones}
-use Rattle.std.proofs.Common.{ℕ, ◌+◌, ◌-◌, ◌*◌, ◌<◌, List, length, ap, ◌∙◌, sym, Some, None, Option, arith}
-use Rattle.finds.specs.Trees.{Trees}
-use Rattle.pqtree.specs.Opening.{group as as_one}
-use Rattle.trees.specs.Cells as cells
-use Rattle.trees.specs.Cells.{Cells}
-use Rattle.trees.specs.Rows.{seen}
+use Rattle.std.proofs.Common.{ℕ, ◌+◌, ◌-◌, ◌*◌, ◌<◌, List, length, ap, ◌∙◌, sym, Some, None, arith}
 use Rattle.trees.specs.declared.rows.View.{View}
 use Rattle.trees.proofs.Finding.{had_standing}
 use Rattle.changes.specs.Bunches.{weight}
 use Rattle.changes.specs.Draft.{drafted}
-use Rattle.changes.specs.Parts.{Are, Lying}
 use Rattle.changes.specs.Shares.{share}
-use Rattle.changes.specs.Written.{Room, Wrote, laid_at, not_laid}
-use Rattle.changes.specs.declared.draft.Spot.{Spot}
-use Rattle.changes.specs.declared.parts.Parts.{Parts}
+use Rattle.changes.specs.Written.{Room, laid_at, not_laid}
 use Rattle.changes.proofs.Having.{had_all}
 use Rattle.changes.proofs.Laying.{part_told, first_stand, middle_stand, last_stand, room_first, room_middle, room_last, lighter, kept_first, kept_all, laid_open, laid_not}
-use Rattle.changes.proofs.Openings.{Found, FoundAll, stays_whole, loop_more, loop_end, loop_stuck, loop_kept, room_next, each_lighter}
+use Rattle.changes.proofs.Openings.{Found, stays_whole, loop_more, loop_end, loop_stuck, loop_kept, room_next, each_lighter}
+use Rattle.changes.proofs.Passing.{grouped, all_found}
 use Rattle.changes.proofs.Telling.{told, cell_tells}
-use Rattle.changes.proofs.Through.{through_start, through_some, through_at, through_more, through_end, to_part, from_part, to_parts, from_parts, at_set}
+use Rattle.changes.proofs.Through.{through_start, through_some, through_at, through_more, through_end, from_part, to_parts, at_set}
 use Rattle.changes.proofs.Writing.{kept_refl, wrote_none}
 use Rattle.changes.proofs.opening.+laying.Goals as goal
 
@@ -57,7 +50,7 @@ lay_each-loop-part-preserved t c =
         _,
         through_more i.1 c.in-Some.ensures.steps,
         loop_more c.args.parts.rows _ c.args.mask _ _ (through_some i.1 c.in-Some.ensures.steps) i.2 c.in_ok-next.ensures.kept
-        (from_part (λ (v : View) (n r : ℕ). Found v n c.args.mask r (drafted c.lay_open.new.draft) c.loop-part.next (Some c.in_ok-next.next)) a c.in_ok-next.ensures.opened),
+            (from_part (λ (v : View) (n r : ℕ). Found v n c.args.mask r (drafted c.lay_open.new.draft) c.loop-part.next (Some c.in_ok-next.next)) a c.in_ok-next.ensures.opened),
       ),
     )
 
@@ -90,13 +83,6 @@ lay_open-group-next-requires t c =
     to_parts (λ (v : View) (n : ℕ) (cs : List ℕ). Room c.args.at (2 * weight v.sets.now cs + 1)) c.of.ensures
     (room_first c.args.part.rows _ _ _ e c.in_ok-layout.layout c.in_ok-layout.ensures (had_standing c.args.part.stands) _ c.as_slice.ensures.value c.requires)
 
--- What a call says of the parts that were passed to it, said of their cells.
-grouped : {v : View} {n : ℕ} {cs : List ℕ} {p : Parts} {R : Cells} {at next : Spot} → Lying v n cs p → ((ts : Trees) → Are p ts → Wrote R at next (as_one ts)) → (ts : Trees) → cells.Parts (seen v) n cs ts → Wrote R at next (as_one ts)
-grouped {R = R} {at = at} {next = next} l = from_parts (λ (v : View) (n : ℕ) (cs : List ℕ). (ts : Trees) → cells.Parts (seen v) n cs ts → Wrote R at next (as_one ts)) l
-
-all_found : {v : View} {n m : ℕ} {cs : List ℕ} {p : Parts} {R : Cells} {at : Spot} {r : Option Spot} → Lying v n cs p → FoundAll p.rows p.count m p.cells.now R at r → FoundAll v n m cs R at r
-all_found {m = m} {R = R} {at = at} {r = r} l = from_parts (λ (v : View) (n : ℕ) (cs : List ℕ). FoundAll v n m cs R at r) l
-
 pub lay_open-of-requires-2 : goal.lay_open-of-requires-2
 lay_open-of-requires-2 t c =
     middle_stand c.args.part.rows _ _ _ (c.in-Partial.ensures ∙ ap (λ (x : ℕ). share x c.args.mask) c.graves.ensures) c.in_ok-layout.layout c.in_ok-layout.ensures (had_standing c.args.part.stands) _ c.as_slice-2.ensures.value
@@ -111,7 +97,7 @@ lay_open-lay_each-requires t c =
     let d = c.as_slice-2.ensures.value in (
       to_parts (λ (v : View) (n : ℕ) (cs : List ℕ). 2 * (weight v.sets.now cs - length cs) + 3 < t) c.of-2.ensures (omega (arith, lighter c.args.part.rows _ _ _ e l h s _ d, c.decreases)),
       to_parts (λ (v : View) (n : ℕ) (cs : List ℕ). Room c.group-next.result (2 * weight v.sets.now cs + 1)) c.of-2.ensures
-      (room_middle c.args.part.rows _ _ _ e l h s _ _ f d (grouped c.of.ensures c.group-next.ensures.grouped) c.requires),
+          (room_middle c.args.part.rows _ _ _ e l h s _ _ f d (grouped c.of.ensures c.group-next.ensures.grouped) c.requires),
     )
 
 pub lay_open-returns-in_err-next-clause-kept : goal.lay_open-returns-in_err-next-clause-kept

@@ -1,7 +1,7 @@
 use Rattle.std.proofs.Common.{◌≡◌, ℕ, suc, ◌+◌, List, [], ◌∷◌, ◌++◌, length, sym, refl, ap, ◌∙◌, arith}
 use Rattle.finds.specs.Trees.{Trees, none, more, len}
 use Rattle.finds.proofs.Branches.{len_plus}
-use Rattle.trees.specs.Cells.{nodes, all_nodes, kids, roots}
+use Rattle.trees.specs.Cells.{nodes, kids, roots}
 use Rattle.trees.specs.Rows.{seen}
 use Rattle.trees.proofs.Cells.{kids_parts, roots_plus}
 use Rattle.trees.proofs.Finding.{had_standing}

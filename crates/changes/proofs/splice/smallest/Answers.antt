@@ -1,5 +1,4 @@
-use Rattle.std.proofs.Common.{rules, ◌≡◌, ℕ, Some, None, Option, IsSome, length, take, subst, arith}
-use Rattle.trees.specs.declared.rows.View.{View}
+use Rattle.std.proofs.Common.{rules, ◌≡◌, ℕ, Some, None, Option, IsSome, take, subst, arith}
 use Rattle.trees.specs.Rows.{seen}
 use Rattle.trees.proofs.Checking.{tree_in_stands}
 use Rattle.trees.proofs.Finding.{had_tree}

@@ -1,4 +1,4 @@
-use Rattle.std.proofs.Common.{sym, subst, Some, None, arith}
+use Rattle.std.proofs.Common.{sym, subst, arith}
 use Rattle.trees.specs.Cells.{Lent, held, Holds}
 use Rattle.trees.specs.Rows.{lent_rows}
 use Rattle.trees.proofs.Writing.{same_room}
@@ -24,13 +24,20 @@ returns-in_err-count-clause-changes c =
 
 pub back-requires-clause-room : goal.back-requires-clause-room
 back-requires-clause-room c =
-    omega (arith, made_cells c.requires c.args.kind (c.ties_nothing.ensures.many c.if-ties_nothing.false) (drafted c.redraw.new.draft) c.in_ok-count.count
-    (λ t h. c.in_ok-count.ensures t (subst (λ (r : Lent). Holds (held r) c.args.count t) (sym c.view.ensures) h)))
+    omega (
+      arith,
+      made_cells c.requires c.args.kind (c.ties_nothing.ensures.many c.if-ties_nothing.false) (drafted c.redraw.new.draft) c.in_ok-count.count
+          (λ t h. c.in_ok-count.ensures t (subst (λ (r : Lent). Holds (held r) c.args.count t) (sym c.view.ensures) h)),
+    )
 
 pub back-requires-clause-long : goal.back-requires-clause-long
 back-requires-clause-long c =
-    omega (arith, c.requires.room, made_cells c.requires c.args.kind (c.ties_nothing.ensures.many c.if-ties_nothing.false) (drafted c.redraw.new.draft) c.in_ok-count.count
-    (λ t h. c.in_ok-count.ensures t (subst (λ (r : Lent). Holds (held r) c.args.count t) (sym c.view.ensures) h)))
+    omega (
+      arith,
+      c.requires.room,
+      made_cells c.requires c.args.kind (c.ties_nothing.ensures.many c.if-ties_nothing.false) (drafted c.redraw.new.draft) c.in_ok-count.count
+          (λ t h. c.in_ok-count.ensures t (subst (λ (r : Lent). Holds (held r) c.args.count t) (sym c.view.ensures) h)),
+    )
 
 pub returns-clause-changes : goal.returns-clause-changes
 returns-clause-changes c =
