@@ -7,7 +7,6 @@ use seriation::building::build;
 use seriation::built::Built;
 use std::alloc::{AllocError, Global};
 use tables::orders::verify_order;
-use tables::verdict::Verdict;
 use trees::allowed::allows;
 use trees::rows::View;
 
@@ -24,7 +23,7 @@ enum Seen {
 // Whether the order fits, by the tally and by the checker of orders; nothing if these differ.
 fn fits(file: &[u8], kinds: &[u8], order: &[u8]) -> Option<bool> {
     let fits = are_together(order, kinds);
-    let checked = matches!(verify_order(file, order), Ok(Verdict::Fitting));
+    let checked = matches!(verify_order(file, order), Ok(None));
     if fits == checked { Some(fits) } else { None }
 }
 

@@ -3,9 +3,7 @@ use answers::printed::{Ending, Printed};
 use tables::refusal::Refusal;
 
 pub fn print_refusal(rt: &HostRuntime, refusal: Refusal) -> anyhow::Result<()> {
-    let number = refusal.number();
-    let place = refusal.place();
-    println!(rt; "refused {number} at {place}")?;
+    println!(rt; "{refusal}")?;
     Ok(())
 }
 

@@ -6,7 +6,7 @@
 use anyhow::anyhow;
 use grounds::checking::verify_ring;
 use grounds::outcome::Outcome;
-use grounds::verdict::RingVerdict;
+use grounds::verdict::NoClash;
 use grounds::whole::seriate;
 use std::alloc::{AllocError, Global};
 use tables::refusal::Refusal;
@@ -33,16 +33,14 @@ fn bytes_of(heap: Global, text: &str) -> Result<Vec<u8>, AllocError> {
 }
 
 fn print_refusal(rt: &HostRuntime, refusal: Refusal) -> anyhow::Result<()> {
-    let number = refusal.number();
-    let place = refusal.place();
-    println!(rt; "refused {number} at {place}")?;
+    println!(rt; "{refusal}")?;
     Ok(())
 }
 
-fn print_verdict(rt: &HostRuntime, answer: Result<RingVerdict, Refusal>) -> anyhow::Result<()> {
+fn print_verdict(rt: &HostRuntime, answer: Result<Option<NoClash>, Refusal>) -> anyhow::Result<()> {
     match answer {
-        Ok(RingVerdict::Ground) => println!(rt; "ground")?,
-        Ok(RingVerdict::NoClash { pair }) => println!(rt; "no clash at {pair}")?,
+        Ok(None) => println!(rt; "ground")?,
+        Ok(Some(no_clash)) => println!(rt; "{no_clash}")?,
         Err(refusal) => return print_refusal(rt, refusal),
     }
     Ok(())

@@ -7,7 +7,6 @@ use seriation::building::build;
 use seriation::built::Built;
 use std::alloc::{AllocError, Global};
 use tables::orders::verify_order;
-use tables::verdict::Verdict;
 use trees::allowed::allows;
 use trees::rows::View;
 
@@ -71,7 +70,7 @@ fn next_order(order: &mut [u8]) -> bool {
 fn compare(view: View, count: usize, file: &[u8], order: &mut [u8]) -> Option<u32> {
     let mut found = 0u32;
     for _ in 0..5040 {
-        let fits = matches!(verify_order(file, order), Ok(Verdict::Fitting));
+        let fits = matches!(verify_order(file, order), Ok(None));
         if allows(view, count, order) != Some(fits) {
             return None;
         }
@@ -88,7 +87,7 @@ fn compare(view: View, count: usize, file: &[u8], order: &mut [u8]) -> Option<u3
 // Whether some order fits the table.
 fn some_fits(file: &[u8], order: &mut [u8]) -> bool {
     for _ in 0..5040 {
-        if matches!(verify_order(file, order), Ok(Verdict::Fitting)) {
+        if matches!(verify_order(file, order), Ok(None)) {
             return true;
         }
         if !next_order(order) {

@@ -11,7 +11,7 @@ use tables::reading::read;
 use tables::refusal::Refusal;
 use tables::room::Room;
 use tables::stored::Table;
-use tables::verdict::Verdict;
+use tables::verdict::Torn;
 
 // The value of a hexadecimal digit.
 fn nibble(digit: u8) -> Option<u8> {
@@ -35,9 +35,7 @@ fn bytes_of(heap: Global, text: &str) -> Result<Vec<u8>, AllocError> {
 }
 
 fn print_refusal(rt: &HostRuntime, refusal: Refusal) -> anyhow::Result<()> {
-    let number = refusal.number();
-    let place = refusal.place();
-    println!(rt; "refused {number} at {place}")?;
+    println!(rt; "{refusal}")?;
     Ok(())
 }
 
@@ -53,14 +51,14 @@ fn print_table(rt: &HostRuntime, answer: Result<Table, Refusal>) -> anyhow::Resu
     }
 }
 
-fn print_verdict(rt: &HostRuntime, answer: Result<Verdict, Refusal>) -> anyhow::Result<()> {
+fn print_verdict(rt: &HostRuntime, answer: Result<Option<Torn>, Refusal>) -> anyhow::Result<()> {
     match answer {
-        Ok(Verdict::Fitting) => {
+        Ok(None) => {
             println!(rt; "fits")?;
             Ok(())
         }
-        Ok(Verdict::Torn { kind, grave }) => {
-            println!(rt; "torn {kind} at {grave}")?;
+        Ok(Some(torn)) => {
+            println!(rt; "{torn}")?;
             Ok(())
         }
         Err(refusal) => print_refusal(rt, refusal),
