@@ -8,7 +8,7 @@ use crate::sets::Sets;
 use tables::sets::contains;
 
 // A pair with the number of its cell, the graves c for which it clashes with (second, c), and those for which it clashes with (c, first).
-#[derive(Clone, Copy, PartialEq, Eq, Debug, Drop)]
+#[derive(Clone, Copy, Drop)]
 pub struct Work {
     pub cell: usize,
     pub pair: Pair,
@@ -17,7 +17,7 @@ pub struct Work {
 }
 
 impl Sets<'_> {
-    // The graves of all kinds with a and without b.
+    // The graves of all kinds with a and without b. (A filter before the fold made the whole call a third slower where a ring is found early.)
     fn parting(self, a: u8, b: u8) -> u64
         ensures { result ≡ parting a b self.entry.kinds.now }
     {
