@@ -24,7 +24,7 @@ impl Search<'_> {
 }
 
 // A ring, found in just a cell for each pair, which are cleared before and after.
-// The cells are no struct here: of a struct made of parts of slices nothing would be known afterwards.
+// They are passed slice by slice: of parts of slices that were put in a struct a proof would know nothing afterwards.
 fn find(
     sets: Sets,
     depths: &mut [u16],
