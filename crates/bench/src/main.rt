@@ -134,8 +134,22 @@ fn text_one(heap: Global, file: &[u8]) -> Result<Answer, AllocError> {
     }
 }
 
-// Answers all tables, so many times over.
+// Answers all tables, and counts the answers.
 fn answer_all<F: Fn(&[u8]) -> Result<Answer, AllocError>>(
+    tables: Tables,
+    answer: F,
+    tally: &mut Tally,
+) -> Result<(), AllocError>
+    requires { F.IsAlwaysCallable answer }
+{
+    for table in tables {
+        tally.count(answer(table)?);
+    }
+    Ok(())
+}
+
+// Answers all tables, so many times over.
+fn answer_rounds<F: Fn(&[u8]) -> Result<Answer, AllocError>>(
     tables: Tables,
     rounds: u32,
     answer: F,
@@ -144,9 +158,7 @@ fn answer_all<F: Fn(&[u8]) -> Result<Answer, AllocError>>(
 {
     let mut tally = Tally::default();
     for _ in 0..rounds {
-        for table in tables {
-            tally.count(answer(table)?);
-        }
+        answer_all(tables, &answer, &mut tally)?;
     }
     Ok(tally)
 }
@@ -163,9 +175,9 @@ fn main(rt: HostRuntime) -> anyhow::Result<()> {
     let start = Instant::now(&rt)?;
     // any other word is for the tree alone
     let tally = match word.as_str() {
-        "whole" => answer_all(tables, rounds, |table| Ok(seriate_one(table)))?,
-        "text" => answer_all(tables, rounds, |table| text_one(rt.alloc(), table))?,
-        _ => answer_all(tables, rounds, |table| Ok(build_one(table)))?,
+        "whole" => answer_rounds(tables, rounds, |table| Ok(seriate_one(table)))?,
+        "text" => answer_rounds(tables, rounds, |table| text_one(rt.alloc(), table))?,
+        _ => answer_rounds(tables, rounds, |table| Ok(build_one(table)))?,
     };
     let elapsed = start.elapsed(&rt)?.as_nanos();
     println!(rt; "{tally}")?;

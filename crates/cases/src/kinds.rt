@@ -11,20 +11,15 @@ use tables::verdict::Verdict;
 use trees::allowed::allows;
 use trees::rows::View;
 
-// What is seen of a tree and of the orders that fit.
+// What is seen of a table and of the orders that fit.
 #[derive(Clone, Copy, Drop)]
 enum Seen {
     // the tree allows just the orders that fit, which are so many
     Orders(usize),
     // no order fits, as was found at this kind
     NoOrder(usize),
-}
-
-// Why nothing is seen of a table.
-#[derive(Clone, Copy, Drop)]
-enum Unseen {
-    Refused,
     Differs,
+    Refused,
 }
 
 impl fmt::Display for Seen {
@@ -32,15 +27,8 @@ impl fmt::Display for Seen {
         match *self {
             Seen::Orders(found) => write!(f, "{found}"),
             Seen::NoOrder(kind) => write!(f, "none {kind}"),
-        }
-    }
-}
-
-impl fmt::Display for Unseen {
-    fn fmt<W: fmt::Write>(&self, f: &mut fmt::Formatter<W>) -> fmt::Result {
-        match self {
-            Unseen::Refused => write!(f, "refused"),
-            Unseen::Differs => write!(f, "differs"),
+            Seen::Differs => write!(f, "differs"),
+            Seen::Refused => write!(f, "refused"),
         }
     }
 }
@@ -52,23 +40,18 @@ fn fits(file: &[u8], kinds: &[Graves], order: &[u8]) -> Option<bool> {
     (fits == checked).then_some(fits)
 }
 
-// How many of the orders fit, if the tree in the rows allows just these.
-fn compare(
-    view: View,
-    count: usize,
-    file: &[u8],
-    kinds: &[Graves],
-    orders: &[Vec<u8>],
-) -> Result<usize, Unseen> {
-    let mut found = 0usize;
-    for order in orders {
-        let fits = fits(file, kinds, order.as_slice()).ok_or(Unseen::Differs)?;
-        if allows(view, count, order.as_slice()) != Some(fits) {
-            return Err(Unseen::Differs);
-        }
-        found = found.saturating_add(fits as usize);
+// The tree in the rows, and all orders.
+fn compare(view: View, count: usize, file: &[u8], kinds: &[Graves], orders: &[Vec<u8>]) -> Seen {
+    let agree = |order: &Vec<u8>| {
+        let fits = fits(file, kinds, order.as_slice());
+        fits.is_some() && allows(view, count, order.as_slice()) == fits
+    };
+    if orders.iter().all(agree) {
+        let fitting = |order: &&Vec<u8>| are_together(order.as_slice(), kinds);
+        Seen::Orders(orders.iter().filter(fitting).count())
+    } else {
+        Seen::Differs
     }
-    Ok(found)
 }
 
 // Whether no order fits.
@@ -79,7 +62,7 @@ fn none_fits(file: &[u8], kinds: &[Graves], orders: &[Vec<u8>]) -> bool {
 }
 
 // What is seen of a table.
-fn look(file: &[u8], kinds: &[Graves], orders: &[Vec<u8>]) -> Result<Seen, Unseen> {
+fn look(file: &[u8], kinds: &[Graves], orders: &[Vec<u8>]) -> Seen {
     let mut parents = [0u8; 13];
     let mut sorts = [0u8; 13];
     let mut places = [0u8; 13];
@@ -100,11 +83,11 @@ fn look(file: &[u8], kinds: &[Graves], orders: &[Vec<u8>]) -> Result<Seen, Unsee
                 places: &places,
                 sets: &sets,
             };
-            Ok(Seen::Orders(compare(view, count, file, kinds, orders)?))
+            compare(view, count, file, kinds, orders)
         }
-        Ok(Built::NoOrder { kind }) if none_fits(file, kinds, orders) => Ok(Seen::NoOrder(kind)),
-        Ok(Built::NoOrder { .. }) => Err(Unseen::Differs),
-        Err(_) => Err(Unseen::Refused),
+        Ok(Built::NoOrder { kind }) if none_fits(file, kinds, orders) => Seen::NoOrder(kind),
+        Ok(Built::NoOrder { .. }) => Seen::Differs,
+        Err(_) => Seen::Refused,
     }
 }
 
@@ -118,15 +101,6 @@ fn first_kinds(heap: Global, file: &[u8], kinds: u8) -> Result<Vec<u8>, AllocErr
     Ok(front)
 }
 
-fn print_seen(rt: &HostRuntime, file: &[u8], orders: &[Vec<u8>]) -> anyhow::Result<()> {
-    let kinds = kinds_of(rt.alloc(), file)?;
-    match look(file, kinds.as_slice(), orders) {
-        Ok(seen) => print!(rt; "{seen}")?,
-        Err(unseen) => print!(rt; "{unseen}")?,
-    }
-    Ok(())
-}
-
 // For each number of first kinds how many orders fit, or `none K`.
 pub fn print_kinds(rt: &HostRuntime, file: &[u8]) -> anyhow::Result<()> {
     let [graves, kinds, ..] = file else {
@@ -138,7 +112,9 @@ pub fn print_kinds(rt: &HostRuntime, file: &[u8]) -> anyhow::Result<()> {
             print!(rt; " ")?;
         }
         let front = first_kinds(rt.alloc(), file, j)?;
-        print_seen(rt, front.as_slice(), orders.as_slice())?;
+        let kinds = kinds_of(rt.alloc(), front.as_slice())?;
+        let seen = look(front.as_slice(), kinds.as_slice(), orders.as_slice());
+        print!(rt; "{seen}")?;
     }
     println!(rt; "")?;
     Ok(())

@@ -1,8 +1,28 @@
 // Sets of graves in the bits of a byte, for up to eight graves, and how they stand in an order.
 
+use std::ops::{BitAnd, BitOr};
+
 // A set of graves.
 #[derive(Clone, Copy, PartialEq, Eq, Drop)]
 pub struct Graves(pub u8);
+
+// The union.
+impl BitOr for Graves {
+    type Output = Graves;
+
+    fn bitor(self, other: Graves) -> Graves {
+        Graves(self.0 | other.0)
+    }
+}
+
+// What both have.
+impl BitAnd for Graves {
+    type Output = Graves;
+
+    fn bitand(self, other: Graves) -> Graves {
+        Graves(self.0 & other.0)
+    }
+}
 
 impl Graves {
     pub const NONE: Graves = Graves(0);
@@ -15,21 +35,11 @@ impl Graves {
     pub fn of(graves: &[u8]) -> Graves {
         graves
             .iter()
-            .fold(Graves::NONE, |set, grave| set.or(Graves::only(*grave)))
-    }
-
-    // The union of the two.
-    pub fn or(self, other: Graves) -> Graves {
-        Graves(self.0 | other.0)
-    }
-
-    // What both have.
-    pub fn and(self, other: Graves) -> Graves {
-        Graves(self.0 & other.0)
+            .fold(Graves::NONE, |set, grave| set | Graves::only(*grave))
     }
 
     pub fn has(self, grave: u8) -> bool {
-        self.and(Graves::only(grave)) != Graves::NONE
+        self & Graves::only(grave) != Graves::NONE
     }
 
     // Whether the graves of the set stand next to each other in the order.
@@ -52,7 +62,7 @@ impl Graves {
 
 // The union of the sets.
 pub fn union_of(sets: &[Graves]) -> Graves {
-    sets.iter().fold(Graves::NONE, |all, set| all.or(*set))
+    sets.iter().fold(Graves::NONE, |all, set| all | *set)
 }
 
 // Whether the graves of each set stand next to each other in the order.

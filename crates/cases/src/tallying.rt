@@ -41,7 +41,7 @@ impl Found {
         let Some(row) = self.between.get_mut(b as usize) else {
             return;
         };
-        for (a, ends) in (0..7u8).zip(row.iter_mut()) {
+        for (a, ends) in (0..7).zip(row.iter_mut()) {
             let others = if before.has(a) {
                 behind
             } else if behind.has(a) {
@@ -49,7 +49,7 @@ impl Found {
             } else {
                 Graves::NONE
             };
-            *ends = ends.and(others);
+            *ends = *ends & others;
         }
     }
 
@@ -69,11 +69,12 @@ pub fn tally(orders: &[Vec<u8>], kinds: &[Graves]) -> Found {
         orders: 0,
         between: [[Graves(127); 7]; 7],
     };
-    for order in orders {
-        if are_together(order.as_slice(), kinds) {
-            found.orders = found.orders.saturating_add(1);
-            found.narrow(order.as_slice());
-        }
+    for order in orders
+        .iter()
+        .filter(|order| are_together(order.as_slice(), kinds))
+    {
+        found.orders = found.orders.saturating_add(1);
+        found.narrow(order.as_slice());
     }
     found
 }

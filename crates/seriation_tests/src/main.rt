@@ -57,7 +57,7 @@ fn print_table(rt: &HostRuntime, file: &[u8], orders: &[Vec<u8>]) -> anyhow::Res
             }
         }
         Ok(Built::NoOrder { .. }) if orders.iter().any(|order| fits(file, order.as_slice())) => {
-            print!(rt; " differs")?
+            print!(rt; " differs")?;
         }
         Ok(Built::NoOrder { kind }) => print!(rt; " none {kind}")?,
         Err(_) => print!(rt; " refused")?,
@@ -75,23 +75,27 @@ fn first_kinds(heap: Global, file: &[u8], kinds: u8) -> Result<Vec<u8>, AllocErr
     Ok(front)
 }
 
-fn main(rt: HostRuntime) -> anyhow::Result<()> {
+// The answers for each number of first kinds.
+fn print_kinds(rt: &HostRuntime, file: &[u8]) -> anyhow::Result<()> {
     let heap = rt.alloc();
-    for line in rt.lines(heap) {
+    let [graves @ 0..=7, kinds, ..] = file else {
+        bail!("a file that is no table, or one of more graves than are gone through");
+    };
+    let orders = (0..*graves).permutations(heap, *graves as usize)?;
+    let orders: Vec<Vec<u8>> = orders.try_collect(heap)?;
+    for j in 0..=*kinds {
+        let front = first_kinds(heap, file, j)?;
+        print_table(rt, front.as_slice(), orders.as_slice())?;
+    }
+    println!(rt; "")?;
+    Ok(())
+}
+
+fn main(rt: HostRuntime) -> anyhow::Result<()> {
+    for line in rt.lines(rt.alloc()) {
         let line = line?;
         print!(rt; "{line}:")?;
-        let file = hex::decode(heap, line.as_str())?;
-        let [graves @ 0..=7, kinds, ..] = file.as_slice() else {
-            bail!("a table that is not gone through");
-        };
-        let orders: Vec<Vec<u8>> = (0..*graves)
-            .permutations(heap, *graves as usize)?
-            .try_collect(heap)?;
-        for j in 0..=*kinds {
-            let front = first_kinds(heap, file.as_slice(), j)?;
-            print_table(&rt, front.as_slice(), orders.as_slice())?;
-        }
-        println!(rt; "")?;
+        print_kinds(&rt, hex::decode(rt.alloc(), line.as_str())?.as_slice())?;
     }
     Ok(())
 }
