@@ -6,7 +6,7 @@ use Rattle.finds.specs.Exactness.{RowOf}
 use Rattle.finds.proofs.Start.{row_order}
 use Rattle.tables.specs.Format.{kind_set, kinds_from, finds_in}
 use Rattle.tables.specs.Orders.{GoodOrder, Between, FirstBetween, Tears, Judged}
-use Rattle.tables.specs.declared.verdict.Verdict.TheVariants.{Fitting}
+use Rattle.std.proofs.Common.{None}
 use Rattle.tables.proofs.KindList.{kinds_length, kinds_at}
 use Rattle.tables.proofs.Places.{order_whole, untorn, torn_by}
 
@@ -23,7 +23,7 @@ module _ (n : ℕ) (bs l : List ℕ) (good : GoodOrder n l) where
   stretch : (i : ℕ) (d : ℕ → Bool) → i < length bs / 8 → Untorn i → OneStretch n order_of.0 (get_or (kinds_from bs 0 (length bs / 8)) i d)
   stretch i d h u = subst (OneStretch n order_of.0) (sym (kinds_at bs 0 (length bs / 8) i i d h (omega arith))) (untorn n l good order_of.0 order_of.1 (has (kind_set bs i)) u)
 
-  pub judged_fits : ((i : ℕ) → i < length bs / 8 → Untorn i) → Judged (finds_in n bs) l Fitting
+  pub judged_fits : ((i : ℕ) → i < length bs / 8 → Untorn i) → Judged (finds_in n bs) l None
   unfolding Fits
   judged_fits u = (order_of.0, order_of.1, λ i d h. let z = kinds_length bs 0 (length bs / 8) in stretch i d (omega arith) (u i (omega arith)))
 

@@ -1,4 +1,5 @@
 pub mod Reach
+pub mod KindSets
 pub mod Between
 pub mod Places
 pub mod KindList

@@ -18,6 +18,15 @@ abbrev pub kinds_from : List ℕ → ℕ → ℕ → List (ℕ → Bool)
 kinds_from bs i zero = []
 kinds_from bs i (suc m) = has (kind_set bs i) ∷ kinds_from bs (suc i) m
 
+-- The sets of graves of the m kinds from kind i on.
+abbrev pub sets_from : List ℕ → ℕ → ℕ → List ℕ
+sets_from bs i zero = []
+sets_from bs i (suc m) = kind_set bs i ∷ sets_from bs (suc i) m
+
+-- The sets of graves of all kinds in these bytes, eight for each; fewer bytes at the end stand for nothing.
+unfoldable pub sets_in : List ℕ → List ℕ
+sets_in bs = sets_from bs 0 (length bs / 8)
+
 -- The finds of n graves whose kinds stand in these bytes, eight for each kind.
 abbrev pub finds_in : ℕ → List ℕ → Finds
 finds_in n bs = record { graves = n; kinds = kinds_from bs 0 (length bs / 8) }

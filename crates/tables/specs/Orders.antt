@@ -1,13 +1,12 @@
 -- Orders from elsewhere: a byte for each place, the grave that stands there; and whether such an order fits.
-use Rattle.std.specs.Prelude.{◌≡◌, ℕ, ◌<◌, ◌≤◌, Bool, true, false, ◌≢◌, ◌⊎◌, List, length, get_or, None, Ok, Err, Result, slice_index, slice_index_or}
+use Rattle.std.specs.Prelude.{◌≡◌, ℕ, ◌<◌, ◌≤◌, Bool, true, false, ◌≢◌, ◌⊎◌, List, length, get_or, Some, None, Ok, Err, Option, Result, slice_index, slice_index_or}
 use Rattle.finds.specs.Finds.{Finds, Order, OneStretch, Fits}
 use Rattle.finds.specs.Exactness.{RowOf}
 use Rattle.tables.specs.Format.{graves_of, finds_of}
 use Rattle.tables.specs.Reading.{Refused, Taken}
 use Rattle.tables.specs.declared.refusal.Refusal.{Refusal}
 use Rattle.tables.specs.declared.refusal.Refusal.TheVariants.{GraveCount, KindCount, FileLength, UnknownGrave, BadOrder, BadRing, BadPair, ShortMemory}
-use Rattle.tables.specs.declared.verdict.Verdict.{Verdict}
-use Rattle.tables.specs.declared.verdict.Verdict.TheVariants.{Fitting, Torn}
+use Rattle.tables.specs.declared.verdict.Torn.{Torn}
 
 -- The byte at place p is no grave, or stood at an earlier place.
 abbrev pub BadPlace : ℕ → List ℕ → ℕ → Type 0
@@ -52,13 +51,13 @@ pub record Tears (f : Finds) (l : List ℕ) (i g : ℕ) : Type 0 where
   pub place : ℕ
   pub first : FirstBetween (kind_of f i) l place g
 
--- What is said of an order: it fits, or the first torn kind and the first grave that tears it.
-abbrev pub Judged : Finds → List ℕ → Verdict → Type 0
-Judged f l Fitting = (o : Order f.graves) × RowOf f.graves o l × Fits f o
-Judged f l (Torn i g) = Tears f l i g
+-- What is said of an order: nothing where it fits, or the first torn kind and the first grave that tears it.
+abbrev pub Judged : Finds → List ℕ → Option Torn → Type 0
+Judged f l None = (o : Order f.graves) × RowOf f.graves o l × Fits f o
+Judged f l (Some t) = Tears f l t.kind t.grave
 
 -- What checking an order against a file answers: the first refusal of the table, else 5, else the verdict.
-abbrev pub OrderAnswer : List ℕ → List ℕ → Result Verdict Refusal → Type 0
+abbrev pub OrderAnswer : List ℕ → List ℕ → Result (Option Torn) Refusal → Type 0
 OrderAnswer file l (Ok v) = Taken file None × GoodOrder (graves_of file) l × Judged (finds_of file) l v
 OrderAnswer file l (Err (BadOrder at)) = Taken file None × IsBadOrder (graves_of file) l at
 OrderAnswer file l (Err GraveCount) = Refused file None GraveCount

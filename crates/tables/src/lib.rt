@@ -1,6 +1,7 @@
 // Tables of finds: the reader of their files, and the checker of an order from elsewhere.
 #![tactic(auto)]
 
+pub mod kinds;
 pub mod orders;
 pub mod reading;
 pub mod refusal;

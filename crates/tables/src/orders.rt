@@ -1,93 +1,78 @@
 // The checker of an order from elsewhere.
 ghost use Rattle.std.specs.Prelude.{◌≡◌, ℕ, ◌<◌, ◌≤◌, true, false, length, None, MatchOption, ◌≢◌, slice_index};
 ghost use Rattle.finds.specs.Sets.{has};
+ghost use Rattle.tables.specs.First.{First};
 ghost use Rattle.tables.specs.Format.{finds_in};
 ghost use Rattle.tables.specs.Orders.{BadPlace, GoodOrder, Between, Judged, OrderAnswer};
 
-use crate::reading::{kind_at, read};
+use crate::kinds::Kinds;
+use crate::reading::read;
 use crate::refusal::Refusal;
 use crate::sets::contains;
 use crate::stored::Table;
-use crate::verdict::Verdict;
-
-// Whether the grave stands before the place.
-fn stood_before(order: &[u8], p: usize, grave: u8) -> bool
-    requires { p ≤ length order.now }
-    ensures stood { result ≡ true → (q : ℕ) × (q < p) × (slice_index order.now q ≡ grave) }
-    ensures new { result ≡ false → (q : ℕ) → q < p → slice_index order.now q ≢ grave }
-{
-    for q in 0..p {
-        if order[q] == grave {
-            return true;
-        }
-    }
-    false
-}
+use crate::verdict::Torn;
 
 // The first place with a byte that is no grave or stood before, if any.
 fn bad_place(order: &[u8], n: u8) -> Option<usize>
-    ensures { MatchOption result ((p : ℕ) → p < length order.now → BadPlace n order.now p → ⊥) (λ at. (at < length order.now) × BadPlace n order.now at × ((p : ℕ) → p < at → BadPlace n order.now p → ⊥)) }
+    ensures { First (BadPlace n order.now) (length order.now) result }
 {
-    for p in 0..order.len() {
-        if order[p] >= n || stood_before(order, p, order[p]) {
+    for (p, grave) in order.iter().enumerate() {
+        if *grave >= n || order[..p].contains(grave) {
             return Some(p);
         }
     }
     None
+}
+
+// The first place with a grave of the kind, if any.
+fn first_place(order: &[u8], set: u64) -> Option<usize>
+    ensures { First (λ p. has set (slice_index order.now p) ≡ true) (length order.now) result }
+{
+    order.iter().position(|grave| contains(set, *grave))
+}
+
+// The first place with a grave that lacks the kind, if any.
+fn first_lacking(order: &[u8], set: u64) -> Option<usize>
+    ensures { First (λ p. has set (slice_index order.now p) ≡ false) (length order.now) result }
+{
+    order.iter().position(|grave| !contains(set, *grave))
 }
 
 // The last place with a grave of the kind, if any.
 fn last_place(order: &[u8], set: u64) -> Option<usize>
-    requires { (p : ℕ) → p < length order.now → slice_index order.now p < 64 }
     ensures { MatchOption result ((p : ℕ) → p < length order.now → has set (slice_index order.now p) ≡ false) (λ at. (at < length order.now) × (has set (slice_index order.now at) ≡ true) × ((p : ℕ) → at < p → p < length order.now → has set (slice_index order.now p) ≡ false)) }
 {
-    for p in (0..order.len()).rev() {
-        if contains(set, order[p]) {
-            return Some(p);
-        }
-    }
-    None
+    order.iter().rposition(|grave| contains(set, *grave))
 }
 
 // The first place whose grave lies between two graves of the kind without having it, if any.
 fn first_between(order: &[u8], set: u64) -> Option<usize>
-    requires { (p : ℕ) → p < length order.now → slice_index order.now p < 64 }
-    ensures { MatchOption result ((p : ℕ) → p < length order.now → Between (has set) order.now p → ⊥) (λ at. (at < length order.now) × Between (has set) order.now at × ((p : ℕ) → p < at → Between (has set) order.now p → ⊥)) }
+    ensures { First (Between (has set) order.now) (length order.now) result }
 {
-    let Some(last) = last_place(order, set) else {
-        return None;
-    };
-    let mut begun = false;
-    for p in 0..last {
-        if contains(set, order[p]) {
-            begun = true;
-        } else if begun {
-            return Some(p);
+    let first = first_place(order, set)?;
+    let last = last_place(order, set)?;
+    let lacking = first_lacking(&order[first..last], set)?;
+    Some(first + lacking)
+}
+
+// The first kind that the order of the table's graves tears, if any.
+fn judge(table: Table, order: &[u8]) -> Option<Torn>
+    requires good { GoodOrder table.graves order.now }
+    ensures { Judged (finds_in table.entry.graves table.entry.kinds.now) order.now result }
+{
+    for (kind, set) in Kinds::of(table.kinds).enumerate() {
+        if let Some(place) = first_between(order, set) {
+            return Some(Torn {
+                kind,
+                grave: order[place],
+            });
         }
     }
     None
 }
 
-// The verdict on an order of the table's graves: the first kind that is torn, if any.
-fn judge(table: Table, order: &[u8]) -> Verdict
-    requires few { table.graves ≤ 64 }
-    requires short { length table.kinds.now ≤ 1024 }
-    requires good { GoodOrder table.graves order.now }
-    ensures { Judged (finds_in table.entry.graves table.entry.kinds.now) order.now result }
-{
-    for kind in 0..table.kinds.len() / 8 {
-        if let Some(place) = first_between(order, kind_at(table.kinds, kind)) {
-            return Verdict::Torn {
-                kind,
-                grave: order[place],
-            };
-        }
-    }
-    Verdict::Fitting
-}
-
-// Whether the order fits the table of the file, or the first kind and grave that tear it; or the first refusal that applies, of the table and then of the order.
-pub fn verify_order(file: &[u8], order: &[u8]) -> Result<Verdict, Refusal>
+// Nothing if the order fits the table of the file, else the first kind and grave that tear it; or the first refusal that applies, of the table and then of the order.
+pub fn verify_order(file: &[u8], order: &[u8]) -> Result<Option<Torn>, Refusal>
     ensures { OrderAnswer file.now order.now result }
 {
     let table = read(file, None)?;

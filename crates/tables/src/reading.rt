@@ -1,8 +1,10 @@
 // The reader of a table's file: each check hands on its value or names the refusal.
-ghost use Rattle.std.specs.Prelude.{◌≡◌, ℕ, ◌+◌, ◌*◌, ◌^◌, ◌<◌, ◌≤◌, length, drop, MatchBool, MatchOption};
+ghost use Rattle.std.specs.Prelude.{◌≡◌, ℕ, ◌+◌, ◌*◌, ◌/◌, ◌^◌, ◌<◌, ◌≤◌, length, drop, MatchBool, MatchOption};
+ghost use Rattle.tables.specs.First.{First};
 ghost use Rattle.tables.specs.Format.{word_at, kind_set, graves_of, kind_count};
 ghost use Rattle.tables.specs.Reading.{BadGraves, BadKinds, BadLength, Shortage, Stray, Reads};
 
+use crate::kinds::Kinds;
 use crate::refusal::{Lent, Refusal};
 use crate::room::Room;
 use crate::stored::Table;
@@ -11,10 +13,9 @@ use crate::stored::Table;
 fn grave_count(file: &[u8]) -> Option<u8>
     ensures { MatchOption result (BadGraves file.now) (λ n. (BadGraves file.now → ⊥) × (0 < length file.now → n ≡ graves_of file.now) × (1 ≤ n) × (n ≤ 64)) }
 {
-    if file.is_empty() {
+    let [n, ..] = *file else {
         return Some(1);
-    }
-    let n = file[0];
+    };
     if n == 0 || n > 64 {
         return None;
     }
@@ -25,10 +26,9 @@ fn grave_count(file: &[u8]) -> Option<u8>
 fn kind_number(file: &[u8]) -> Option<u8>
     ensures { MatchOption result (BadKinds file.now) (λ m. (BadKinds file.now → ⊥) × (1 < length file.now → m ≡ kind_count file.now) × (m ≤ 128)) }
 {
-    if file.len() < 2 {
+    let [_, m, ..] = *file else {
         return Some(0);
-    }
-    let m = file[1];
+    };
     if m > 128 {
         return None;
     }
@@ -40,20 +40,21 @@ fn kind_bytes<'a>(file: &'a [u8], m: u8) -> Option<&'a [u8]>
     requires { 1 < length file.now → m ≡ kind_count file.now }
     ensures { MatchOption result (BadLength file.now) (λ bs. (BadLength file.now → ⊥) × (bs.now ≡ drop 2 file.now) × (length file.now ≡ 2 + 8 * m)) }
 {
-    if file.len() < 2 || file.len() != 2 + 8 * m as usize {
+    let [_, _, kinds @ ..] = file else {
+        return None;
+    };
+    if kinds.len() != 8 * m as usize {
         return None;
     }
-    Some(&file[2..])
+    Some(kinds)
 }
 
 // What lent memory is too short for n graves with m kinds, if any.
 fn shortage(lent: Option<Room>, n: u8, m: u8) -> Option<Lent>
-    requires { (1 ≤ n) × (n ≤ 64) }
+    requires { 1 ≤ n }
     ensures { Shortage lent n m result }
 {
-    let Some(room) = lent else {
-        return None;
-    };
+    let room = lent?;
     let n = n as usize;
     if room.branches < 2 * n - 1 || room.kinds < m as usize {
         return Some(Lent::Branches);
@@ -68,18 +69,16 @@ fn shortage(lent: Option<Room>, n: u8, m: u8) -> Option<Lent>
 }
 
 // A kind's graves from its eight bytes, low byte first.
-fn word(bytes: &[u8]) -> u64
+pub(crate) fn word(bytes: &[u8]) -> u64
     requires { length bytes.now ≡ 8 }
     ensures { result ≡ word_at bytes.now 0 }
 {
-    u64::from_le_bytes([
-        bytes[0], bytes[1], bytes[2], bytes[3], bytes[4], bytes[5], bytes[6], bytes[7],
-    ])
+    u64::from_le_bytes(bytes.try_into().unwrap())
 }
 
 // The graves of kind i: a part of the bytes that starts in their middle.
 pub fn kind_at(kinds: &[u8], i: usize) -> u64
-    requires { (8 * i + 8 ≤ length kinds.now) × (length kinds.now ≤ 1024) }
+    requires { 8 * i + 8 ≤ length kinds.now }
     ensures { result ≡ kind_set kinds.now i }
 {
     word(&kinds[8 * i..8 * i + 8])
@@ -87,23 +86,16 @@ pub fn kind_at(kinds: &[u8], i: usize) -> u64
 
 // Whether the set has a grave at or above n.
 fn reaches(set: u64, n: u8) -> bool
-    requires { n ≤ 64 }
     ensures { MatchBool result (2 ^ n ≤ set) (set < 2 ^ n) }
 {
     n < 64 && set >> n != 0
 }
 
-// The first of m kinds that lay in a grave at or above n, if any.
-fn stray(kinds: &[u8], n: u8, m: u8) -> Option<usize>
-    requires { (length kinds.now ≡ 8 * m) × ((m ≤ 128) × ((1 ≤ n) × (n ≤ 64))) }
-    ensures { MatchOption result ((i : ℕ) → i < m → Stray n kinds.now i → ⊥) (λ at. (at < m) × Stray n kinds.now at × ((i : ℕ) → i < at → Stray n kinds.now i → ⊥)) }
+// The first kind that lay in a grave at or above n, if any.
+fn stray(kinds: &[u8], n: u8) -> Option<usize>
+    ensures { First (Stray n kinds.now) (length kinds.now / 8) result }
 {
-    for i in 0..m as usize {
-        if reaches(kind_at(kinds, i), n) {
-            return Some(i);
-        }
-    }
-    None
+    Kinds::of(kinds).position(|set| reaches(set, n))
 }
 
 // The table that a file stands for, or the first refusal that applies; the sizes of lent memory count where memory is lent.
@@ -122,7 +114,7 @@ pub fn read<'a>(file: &'a [u8], lent: Option<Room>) -> Result<Table<'a>, Refusal
     if let Some(what) = shortage(lent, graves, count) {
         return Err(Refusal::ShortMemory(what));
     }
-    if let Some(kind) = stray(kinds, graves, count) {
+    if let Some(kind) = stray(kinds, graves) {
         return Err(Refusal::UnknownGrave(kind));
     }
     Ok(Table { graves, kinds })

@@ -2,6 +2,9 @@
 ghost use Rattle.tables.specs.Refusals.{number_of, place_of};
 ghost use Rattle.std.specs.Prelude.{◌≡◌};
 
+use std::error::Error;
+use std::fmt;
+
 // What memory is lent for.
 #[derive(Clone, Copy, PartialEq, Eq, Debug, Drop)]
 pub enum Lent {
@@ -55,14 +58,27 @@ impl Refusal {
         match self {
             Refusal::GraveCount => 0,
             Refusal::KindCount => 1,
-            Refusal::FileLength(at) => at,
-            Refusal::UnknownGrave(at) => at,
-            Refusal::BadOrder(at) => at,
-            Refusal::BadRing(at) => at,
-            Refusal::BadPair(at) => at,
-            Refusal::ShortMemory(Lent::Branches) => 0,
-            Refusal::ShortMemory(Lent::Colours) => 1,
-            Refusal::ShortMemory(Lent::Rings) => 2,
+            Refusal::FileLength(at)
+            | Refusal::UnknownGrave(at)
+            | Refusal::BadOrder(at)
+            | Refusal::BadRing(at)
+            | Refusal::BadPair(at) => at,
+            Refusal::ShortMemory(lent) => lent as usize,
         }
     }
 }
+
+impl fmt::Display for Refusal {
+    ghost use Rattle.std.specs.Prelude.{Some};
+    ghost use Rattle.tables.specs.Texts.{refusal_text};
+
+    ghost output = { λ r. Some (refusal_text r) };
+
+    fn fmt<W: fmt::Write>(&self, f: &mut fmt::Formatter<W>) -> fmt::Result {
+        let number = self.number();
+        let place = self.place();
+        write!(f, "refused {number} at {place}")
+    }
+}
+
+impl Error for Refusal {}

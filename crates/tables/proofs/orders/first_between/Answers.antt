@@ -1,20 +1,16 @@
-use Rattle.std.proofs.Common.{◌≡◌, ◌+◌, sym, ◌∙◌, subst, arith}
 use Rattle.finds.specs.Sets.{has}
-use Rattle.tables.proofs.Between.{Scanned, scan_met, scan_before, scan_end}
+use Rattle.tables.proofs.Between.{Ends, none_between, between_first}
 use Rattle.tables.proofs.orders.first_between.Goals as goal
+use Rattle.tables.proofs.orders.first_between.Goals.{In_ok-last}
 
-pub loop-p-preserved : goal.loop-p-preserved
-loop-p-preserved c =
-    let k = has c.args.set in let l = c.args.order.now in let p = c.loop-p.p in
-    elim c.if-contains.branch [
-      | goal.then-contains w ↦
-          subst (Scanned k l (p + 1)) (sym w.begun-is) (scan_met k l p c.loop-p.begun c.loop-p.invariant (sym c.contains.ensures ∙ w.if-contains.true))
-      | goal.else-contains+else-begun w ↦
-          subst (Scanned k l (p + 1)) (sym (w.begun-is ∙ w.if-begun.false))
-          (scan_before k l p (subst (Scanned k l p) w.if-begun.false c.loop-p.invariant) (sym c.contains.ensures ∙ w.if-contains.false))
-    ]
+-- What the two searches found.
+ends : (c : In_ok-last) → Ends (has c.args.set) c.args.order.now c.in_ok-first.first c.in_ok-last.last
+ends c =
+    let f = c.in_ok-first.ensures in let l = c.in_ok-last.ensures in
+    record { first_lt = f.0; first_has = f.1; none_before = f.2; last_lt = l.0; last_has = l.1; none_behind = l.2 }
+
+pub returns-in_err-lacking : goal.returns-in_err-lacking
+returns-in_err-lacking c = rw c.from_residual-in_err-lacking.ensures (none_between (ends (goal.at.returns-in_err-lacking c).In_ok-last) c.in_err-lacking.ensures)
 
 pub returns : goal.returns
-returns c =
-    let h = c.in-Some.ensures in let at : c.loop-p.p ≡ c.in-Some.last = omega arith in
-    scan_end (has c.args.set) c.args.order.now c.loop-p.p c.loop-p.begun c.loop-p.invariant (rw at h.1) (rw at h.2)
+returns c = let x = c.in_ok-lacking.ensures in between_first (ends (goal.at.returns c).In_ok-last) c.in_ok-lacking.lacking x.0 x.1 x.2
