@@ -9,13 +9,12 @@ use seriation::building::build;
 use seriation::built::Built;
 use std::alloc::{AllocError, Global};
 use tables::orders::verify_order;
-use tables::verdict::Verdict;
 use trees::allowed::allows;
 use trees::rows::View;
 
 // Whether the order fits the table.
 fn fits(file: &[u8], order: &[u8]) -> bool {
-    matches!(verify_order(file, order), Ok(Verdict::Fitting))
+    verify_order(file, order) == Ok(None)
 }
 
 // How many of the orders the tree allows, if these are just those that fit the table.

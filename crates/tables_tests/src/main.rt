@@ -12,33 +12,26 @@ use tables::reading::read;
 use tables::refusal::Refusal;
 use tables::room::Room;
 use tables::stored::Table;
-use tables::verdict::Verdict;
+use tables::verdict::Torn;
 
 // The bytes that two hexadecimal digits each stand for; `-` stands for none.
 fn bytes_of(heap: Global, text: &str) -> Result<Vec<u8>, FromHexError> {
     hex::decode(heap, if text == "-" { "" } else { text })
 }
 
-fn print_refusal(rt: &HostRuntime, refusal: Refusal) -> anyhow::Result<()> {
-    let number = refusal.number();
-    let place = refusal.place();
-    println!(rt; "refused {number} at {place}")?;
-    Ok(())
-}
-
 fn print_table(rt: &HostRuntime, answer: Result<Table, Refusal>) -> anyhow::Result<()> {
     match answer {
         Ok(Table { graves, kinds }) => println!(rt; "taken {graves} {}", kinds.len() / 8)?,
-        Err(refusal) => print_refusal(rt, refusal)?,
+        Err(refusal) => println!(rt; "{refusal}")?,
     }
     Ok(())
 }
 
-fn print_verdict(rt: &HostRuntime, answer: Result<Verdict, Refusal>) -> anyhow::Result<()> {
+fn print_verdict(rt: &HostRuntime, answer: Result<Option<Torn>, Refusal>) -> anyhow::Result<()> {
     match answer {
-        Ok(Verdict::Fitting) => println!(rt; "fits")?,
-        Ok(Verdict::Torn { kind, grave }) => println!(rt; "torn {kind} at {grave}")?,
-        Err(refusal) => print_refusal(rt, refusal)?,
+        Ok(None) => println!(rt; "fits")?,
+        Ok(Some(torn)) => println!(rt; "{torn}")?,
+        Err(refusal) => println!(rt; "{refusal}")?,
     }
     Ok(())
 }
