@@ -1,5 +1,6 @@
 pub mod KindSets
 pub mod RingBytes
+pub mod RingChunks
 pub mod Clashing
 pub mod Numbers
 pub mod Entering

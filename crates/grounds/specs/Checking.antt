@@ -1,7 +1,6 @@
 -- Rings from elsewhere: two bytes for each pair, first and second grave; and whether such a ring is a ground.
-use Rattle.std.specs.Prelude.{◌≡◌, ℕ, ◌/◌, ◌%◌, ◌<◌, ◌≤◌, Bool, ◌⊎◌, List, [], ◌∷◌, length, None, Ok, Err, MatchBool, Result}
-use Rattle.finds.specs.Finds as finds
-use Rattle.finds.specs.Finds.{Finds, Pair}
+use Rattle.std.specs.Prelude.{◌≡◌, ℕ, ◌/◌, ◌%◌, ◌<◌, ◌≤◌, Bool, ◌⊎◌, List, [], ◌∷◌, length, Some, None, Ok, Err, MatchBool, Option, Result}
+use Rattle.finds.specs.Finds.{Finds, Pair, Ground}
 use Rattle.clashes.specs.Colours.{pair}
 use Rattle.clashes.specs.Rings.{Joint, after, at, Closes}
 use Rattle.tables.specs.Format.{graves_of, finds_in, finds_of}
@@ -10,8 +9,7 @@ use Rattle.tables.specs.declared.stored.Table.{Table}
 use Rattle.tables.specs.declared.refusal.Refusal.{Refusal}
 use Rattle.tables.specs.declared.refusal.Refusal.TheVariants.{GraveCount, KindCount, FileLength, UnknownGrave, BadOrder, BadRing, BadPair, ShortMemory}
 use Rattle.grounds.specs.declared.pairs as code
-use Rattle.grounds.specs.declared.verdict.RingVerdict.{RingVerdict}
-use Rattle.grounds.specs.declared.verdict.RingVerdict.TheVariants.{Ground, NoClash}
+use Rattle.grounds.specs.declared.verdict.NoClash.{NoClash}
 
 -- The answer to a question of yes and no.
 abbrev pub Decided : Bool → Type 0 → Type 0
@@ -20,10 +18,6 @@ Decided r P = MatchBool r P (P → ⊥)
 -- The finds that a table stands for.
 abbrev pub finds_in_table : Table → Finds
 finds_in_table t = finds_in t.graves t.kinds.now
-
--- The table is within the limits of tables.
-abbrev pub Small : Table → Type 0
-Small t = (t.graves ≤ 64) × (length t.kinds.now ≤ 1024)
 
 -- The pair that the code holds, as the definitions have it.
 abbrev pub said : code.Pair.Pair → Pair
@@ -59,13 +53,13 @@ GoodRing n ring = (IsBadRing ring → ⊥) × WellBelow n ring (length ring / 2)
 abbrev pub HoldsOn : Finds → List Pair → ℕ → Type 0
 HoldsOn f ps i = Joint f (at ps i) (at ps (after (length ps) i))
 
--- What is said of a ring: each pair clashes with the next, so that it is a ground; or the first that does not.
-abbrev pub Judged : Finds → List Pair → RingVerdict → Type 0
-Judged f ps Ground = Closes f ps × finds.Ground f
-Judged f ps (NoClash i) = (i < length ps) × (HoldsOn f ps i → ⊥) × ((j : ℕ) → j < i → HoldsOn f ps j)
+-- What is said of a ring: nothing where each pair clashes with the next, so that it is a ground; or the first that does not.
+abbrev pub Judged : Finds → List Pair → Option NoClash → Type 0
+Judged f ps None = Closes f ps × Ground f
+Judged f ps (Some n) = (n.pair < length ps) × (HoldsOn f ps n.pair → ⊥) × ((j : ℕ) → j < n.pair → HoldsOn f ps j)
 
 -- What checking a ring against a file answers: the first refusal of the table, else 6 at the length, else 7 at the first ill pair, else the verdict.
-abbrev pub RingAnswer : List ℕ → List ℕ → Result RingVerdict Refusal → Type 0
+abbrev pub RingAnswer : List ℕ → List ℕ → Result (Option NoClash) Refusal → Type 0
 RingAnswer file ring (Ok v) = Taken file None × GoodRing (graves_of file) ring × Judged (finds_of file) (pairs_of ring) v
 RingAnswer file ring (Err (BadRing at)) = Taken file None × IsBadRing ring × (at ≡ length ring)
 RingAnswer file ring (Err (BadPair at)) = Taken file None × (IsBadRing ring → ⊥) × FirstIll (graves_of file) ring at

@@ -1,4 +1,5 @@
 pub mod Checking
+pub mod Texts
 pub mod Notes
 pub mod Neighbours
 pub mod Searching

@@ -1,25 +1,24 @@
 // The checker of a ring from elsewhere.
-ghost use Rattle.std.specs.Prelude.{◌≡◌, ◌/◌, ◌<◌, length, MatchOption};
-ghost use Rattle.clashes.specs.Rings.{Joint, Parts, after, at};
-ghost use Rattle.grounds.specs.Checking.{Decided, finds_in_table, Small, said, pairs_of, Ill, WellBelow, FirstIll, GoodRing, Judged, RingAnswer};
+ghost use Rattle.std.specs.Prelude.{◌≡◌, ◌/◌, ◌<◌, length, slice_index, MatchOption};
+ghost use Rattle.clashes.specs.Colours.{pair};
+ghost use Rattle.clashes.specs.Rings.{Joint, Parts, after};
+ghost use Rattle.grounds.specs.Checking.{Decided, finds_in_table, said, pairs_of, Ill, WellBelow, FirstIll, GoodRing, Judged, RingAnswer};
 ghost use Rattle.finds.specs.Finds.{Clash};
 
 use crate::pairs::Pair;
-use crate::verdict::RingVerdict;
-use tables::reading::{kind_at, read};
+use crate::verdict::NoClash;
+use tables::kinds::Kinds;
+use tables::reading::read;
 use tables::refusal::Refusal;
 use tables::sets::contains;
 use tables::stored::Table;
 
-// The pair at a place of a ring.
-fn pair_at(ring: &[u8], i: usize) -> Pair
-    requires { i < length ring.now / 2 }
-    ensures { said result ≡ at (pairs_of ring.now) i }
+// The pair of two bytes.
+fn pair_of(bytes: [u8; 2]) -> Pair
+    ensures { said result ≡ pair (slice_index bytes 0) (slice_index bytes 1) }
 {
-    Pair {
-        first: ring[2 * i],
-        second: ring[2 * i + 1],
-    }
+    let [first, second] = bytes;
+    Pair { first, second }
 }
 
 // Whether the pair is of a grave with itself, or with one that is not there.
@@ -33,32 +32,20 @@ fn ill(pair: Pair, n: u8) -> bool
 fn bad_pair(ring: &[u8], n: u8) -> Option<usize>
     ensures { MatchOption result (WellBelow n ring.now (length ring.now / 2)) (FirstIll n ring.now) }
 {
-    for i in 0..ring.len() / 2 {
-        if ill(pair_at(ring, i), n) {
-            return Some(i);
-        }
-    }
-    None
+    let (pairs, _) = ring.as_chunks::<2>();
+    pairs.iter().position(|pair| ill(pair_of(*pair), n))
 }
 
 // Whether some kind lay in a and in c and not in b.
 fn parted(table: Table, a: u8, b: u8, c: u8) -> bool
-    requires small { Small table }
     requires known { (a < table.graves) × ((b < table.graves) × (c < table.graves)) }
     ensures { Decided result (Parts (finds_in_table table.entry) a b c) }
 {
-    for i in 0..table.kinds.len() / 8 {
-        let set = kind_at(table.kinds, i);
-        if contains(set, a) && contains(set, c) && !contains(set, b) {
-            return true;
-        }
-    }
-    false
+    Kinds::of(table.kinds).any(|set| contains(set, a) && contains(set, c) && !contains(set, b))
 }
 
 // Whether the second pair goes on from the first and clashes with it.
 fn clash(table: Table, p: Pair, q: Pair) -> bool
-    requires small { Small table }
     requires well { ((Ill table.graves (said p) → ⊥)) × ((Ill table.graves (said q) → ⊥)) }
     ensures { Decided result (Clash (finds_in_table table.entry) (said p) (said q)) }
 {
@@ -67,7 +54,6 @@ fn clash(table: Table, p: Pair, q: Pair) -> bool
 
 // Whether two pairs clash, in either sense.
 fn joint(table: Table, p: Pair, q: Pair) -> bool
-    requires small { Small table }
     requires well { ((Ill table.graves (said p) → ⊥)) × ((Ill table.graves (said q) → ⊥)) }
     ensures { Decided result (Joint (finds_in_table table.entry) (said p) (said q)) }
 {
@@ -82,24 +68,23 @@ fn place_after(i: usize, count: usize) -> usize
     if i + 1 == count { 0 } else { i + 1 }
 }
 
-// The verdict on a ring of pairs of the table's graves: the first pair that does not clash with the next, if any.
-fn judge(table: Table, ring: &[u8]) -> RingVerdict
-    requires small { Small table }
+// The first pair of a ring of pairs of the table's graves that does not clash with the next, if any.
+fn judge(table: Table, ring: &[u8]) -> Option<NoClash>
     requires good { GoodRing table.graves ring.now }
     ensures { Judged (finds_in_table table.entry) (pairs_of ring.now) result }
 {
-    let count = ring.len() / 2;
-    for pair in 0..count {
-        let next = place_after(pair, count);
-        if !joint(table, pair_at(ring, pair), pair_at(ring, next)) {
-            return RingVerdict::NoClash { pair };
+    let (pairs, _) = ring.as_chunks::<2>();
+    for (place, this) in pairs.iter().enumerate() {
+        let next = pairs[place_after(place, pairs.len())];
+        if !joint(table, pair_of(*this), pair_of(next)) {
+            return Some(NoClash { pair: place });
         }
     }
-    RingVerdict::Ground
+    None
 }
 
-// Whether the ring is a ground of the table of the file, or the first pair that does not clash with the next; or the first refusal that applies, of the table and then of the ring.
-pub fn verify_ring(file: &[u8], ring: &[u8]) -> Result<RingVerdict, Refusal>
+// Nothing if the ring is a ground of the table of the file, else the first pair that does not clash with the next; or the first refusal that applies, of the table and then of the ring.
+pub fn verify_ring(file: &[u8], ring: &[u8]) -> Result<Option<NoClash>, Refusal>
     ensures { RingAnswer file.now ring.now result }
 {
     let table = read(file, None)?;

@@ -1,24 +1,30 @@
-use Rattle.std.proofs.Common.{arith, below_more}
+use Rattle.std.proofs.Common.{rules, arith, below_more}
 use Rattle.clashes.specs.Rings.{Closes}
-use Rattle.grounds.specs.Checking.{finds_in_table, pairs_of}
+use Rattle.grounds.specs.Checking.{finds_in_table, pairs_of, said}
 use Rattle.grounds.proofs.RingBytes.{pairs_length}
-use Rattle.grounds.proofs.Clashing.{held, ring_ground}
+use Rattle.grounds.proofs.RingChunks.{TwoPairs, both_well, both_held}
+use Rattle.grounds.proofs.Clashing.{ring_ground}
 use Rattle.grounds.proofs.checking.judge.Goals as goal
+use Rattle.grounds.proofs.checking.judge.Goals.{After-pair_of-in-loop-place}
+
+-- The two pairs at hand.
+at_hand : (c : After-pair_of-in-loop-place) → TwoPairs c.args.ring.now c.as_chunks.result.0.now c.loop-place.place c.place_after.result (said c.pair_of.result) (said c.pair_of-in-loop-place.result)
+at_hand c = record { cut = c.as_chunks.ensures.front; this = c.pair_of.ensures; next = c.pair_of-in-loop-place.ensures; this_lt = search rules; next_lt = search rules; next_is = search rules }
+
+pub joint-requires : goal.joint-requires
+joint-requires c = record { well = both_well (at_hand (goal.at.joint-requires c).After-pair_of-in-loop-place) c.requires.good }
 
 pub returns-then-not-joint : goal.returns-then-not-joint
 returns-then-not-joint c =
-    let l = c.args.ring.now in let i = c.loop-pair.pair in let z = pairs_length l in (
-      omega arith,
-      (λ h. c.if-not-joint.ensures ((held (finds_in_table c.args.table) l i c.place_after-next.result c.pair_at.ensures c.pair_at-in-loop-pair.ensures c.place_after-next.ensures).1 h)),
-      c.loop-pair.invariant,
-    )
+    let z = pairs_length c.args.ring.now in let f = finds_in_table c.args.table in
+    (omega arith, (λ h. c.if-not-joint.ensures ((both_held (at_hand (goal.at.returns-then-not-joint c).After-pair_of-in-loop-place) f).1 h)), c.loop-place.invariant)
 
-pub loop-pair-preserved : goal.loop-pair-preserved
-loop-pair-preserved c =
-    let l = c.args.ring.now in let i = c.loop-pair.pair in
-    below_more _ _ c.loop-pair.invariant ((held (finds_in_table c.args.table) l i c.place_after-next.result c.pair_at.ensures c.pair_at-in-loop-pair.ensures c.place_after-next.ensures).0 c.if-not-joint.ensures)
+pub loop-place-preserved : goal.loop-place-preserved
+loop-place-preserved c =
+    let f = finds_in_table c.args.table in
+    below_more _ _ c.loop-place.invariant ((both_held (at_hand (goal.at.loop-place-preserved c).After-pair_of-in-loop-place) f).0 c.if-not-joint.ensures)
 
 pub returns : goal.returns
 returns c =
     let f = finds_in_table c.args.table in let l = c.args.ring.now in let z = pairs_length l in
-    let closes : Closes f (pairs_of l) = λ i h. c.loop-pair.invariant i (omega arith) in (closes, ring_ground f l c.requires.good.0 closes)
+    let closes : Closes f (pairs_of l) = λ i h. c.loop-place.invariant i (omega arith) in (closes, ring_ground f l c.requires.good.0 closes)

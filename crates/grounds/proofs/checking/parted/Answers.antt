@@ -1,14 +1,18 @@
-use Rattle.std.proofs.Common.{ℕ, sym, subst, arith}
+use Rattle.std.proofs.Common.{ℕ, ◌/◌, ◌<◌, Bool, true, false, List, length, MatchBool, rules}
+use Rattle.clashes.specs.Rings.{Parts}
+use Rattle.tables.specs.Format.{kind_set, finds_in}
+use Rattle.grounds.specs.Checking.{Decided}
 use Rattle.grounds.proofs.KindSets.{Parting, in_bytes, parts_in, parting_of}
 use Rattle.grounds.proofs.checking.parted.Goals as goal
 
-pub returns-then-not-contains : goal.returns-then-not-contains
-returns-then-not-contains c =
-    let a = c.args.a in let b = c.args.b in let g = c.args.c in
-    parts_in (in_bytes c.args.table.graves c.args.table.kinds.now) a b g c.loop-i.i (omega arith) (omega arith) (omega arith) (omega arith)
-    (subst (λ (s : ℕ). Parting s a b g) c.kind_at-set.ensures (sym c.if-contains.ensures, sym c.if-not-contains.ensures, sym c.if-contains-2.ensures))
+-- Some kind of the finds parts the graves just if some kind in the bytes does.
+parting_decided : (n : ℕ) (bs : List ℕ) (x y z : ℕ) (b : Bool) → x < n → y < n → z < n
+    → MatchBool b ((i : ℕ) × (i < length bs / 8) × Parting (kind_set bs i) x y z) ((i : ℕ) → i < length bs / 8 → Parting (kind_set bs i) x y z → ⊥) → Decided b (Parts (finds_in n bs) x y z)
+parting_decided n bs x y z true lx ly lz found = parts_in (in_bytes n bs) x y z found.0 found.1 lx ly lz found.2
+parting_decided n bs x y z false lx ly lz none = λ s. let p = parting_of (in_bytes n bs) x y z s in none p.0 p.1 p.2
 
 pub returns : goal.returns
-returns c s =
-    let p = parting_of (in_bytes c.args.table.graves c.args.table.kinds.now) c.args.a c.args.b c.args.c s in
-    c.loop-i.invariant p.0 (let l = p.1 in omega arith) p.2
+returns c =
+    let bs = c.args.table.kinds.now in let x = c.args.a in let y = c.args.b in let z = c.args.c in let k = c.requires in
+    let found : MatchBool c.any.result ((i : ℕ) × (i < length bs / 8) × Parting (kind_set bs i) x y z) ((i : ℕ) → i < length bs / 8 → Parting (kind_set bs i) x y z → ⊥) = search rules in
+    parting_decided c.args.table.graves bs x y z c.any.result k.known.0 k.known.1.0 k.known.1.1 found
