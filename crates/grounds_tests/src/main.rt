@@ -6,7 +6,7 @@
 use anyhow::bail;
 use grounds::checking::verify_ring;
 use grounds::outcome::Outcome;
-use grounds::verdict::RingVerdict;
+use grounds::verdict::NoClash;
 use grounds::whole::seriate;
 use hex::FromHexError;
 use std::alloc::Global;
@@ -17,18 +17,11 @@ fn bytes_of(heap: Global, text: &str) -> Result<Vec<u8>, FromHexError> {
     hex::decode(heap, if text == "-" { "" } else { text })
 }
 
-fn print_refusal(rt: &HostRuntime, refusal: Refusal) -> anyhow::Result<()> {
-    let number = refusal.number();
-    let place = refusal.place();
-    println!(rt; "refused {number} at {place}")?;
-    Ok(())
-}
-
-fn print_verdict(rt: &HostRuntime, answer: Result<RingVerdict, Refusal>) -> anyhow::Result<()> {
+fn print_verdict(rt: &HostRuntime, answer: Result<Option<NoClash>, Refusal>) -> anyhow::Result<()> {
     match answer {
-        Ok(RingVerdict::Ground) => println!(rt; "ground")?,
-        Ok(RingVerdict::NoClash { pair }) => println!(rt; "no clash at {pair}")?,
-        Err(refusal) => print_refusal(rt, refusal)?,
+        Ok(None) => println!(rt; "ground")?,
+        Ok(Some(no_clash)) => println!(rt; "{no_clash}")?,
+        Err(refusal) => println!(rt; "{refusal}")?,
     }
     Ok(())
 }
@@ -58,7 +51,7 @@ fn print_whole(rt: &HostRuntime, file: &[u8]) -> anyhow::Result<()> {
     ) {
         Ok(Outcome::Tree { .. }) => println!(rt; "tree")?,
         Ok(Outcome::Ground { pairs }) => print_verdict(rt, verify_ring(file, &ring[..2 * pairs]))?,
-        Err(refusal) => print_refusal(rt, refusal)?,
+        Err(refusal) => println!(rt; "{refusal}")?,
     }
     Ok(())
 }
