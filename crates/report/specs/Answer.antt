@@ -1,12 +1,11 @@
 -- The texts that the programs print, byte for byte.
 use Rattle.std.specs.Prelude.{ℕ, zero, suc, ◌+◌, ◌*◌, ◌/◌, List, [], ◌∷◌, ◌++◌, length, Some, None, codes, decimal, Option, slice_index}
 use Rattle.finds.specs.Trees.{Tree}
-use Rattle.tables.specs.Refusals.{number_of, place_of}
+use Rattle.tables.specs.Texts.{refusal_text, torn_text}
 use Rattle.tables.specs.declared.refusal.Refusal.{Refusal}
-use Rattle.tables.specs.declared.verdict.Verdict.{Verdict}
-use Rattle.tables.specs.declared.verdict.Verdict.TheVariants.{Fitting, Torn}
-use Rattle.grounds.specs.declared.verdict.RingVerdict.{RingVerdict}
-use Rattle.grounds.specs.declared.verdict.RingVerdict.TheVariants.{Ground, NoClash}
+use Rattle.tables.specs.declared.verdict.Torn.{Torn}
+use Rattle.grounds.specs.Texts.{no_clash_text}
+use Rattle.grounds.specs.declared.verdict.NoClash.{NoClash}
 use Rattle.certain.specs.declared.neighbours.Neighbours.{Neighbours}
 use Rattle.text.specs.Show.{show}
 
@@ -49,14 +48,17 @@ ring_answer ring = codes "no order" ++ (line_feed ++ (pairs_text ring (length ri
 
 -- The answer to what is turned away.
 abbrev pub refusal_answer : Refusal → List ℕ
-refusal_answer r = codes "refused " ++ (decimal (number_of r) ++ (codes " at " ++ (decimal (place_of r) ++ line_feed)))
+refusal_answer r = refusal_text r ++ line_feed
+
+-- The answer on what was checked: what is amiss, by its text, or the word for that nothing is.
+abbrev pub verdict_answer : {V : Type 0} → List ℕ → (V → List ℕ) → Option V → List ℕ
+verdict_answer word text None = word ++ line_feed
+verdict_answer word text (Some v) = text v ++ line_feed
 
 -- The answer on an order from elsewhere.
-abbrev pub order_verdict_answer : Verdict → List ℕ
-order_verdict_answer Fitting = codes "fits" ++ line_feed
-order_verdict_answer (Torn kind grave) = codes "torn " ++ (decimal kind ++ (codes " at " ++ (decimal grave ++ line_feed)))
+abbrev pub order_verdict_answer : Option Torn → List ℕ
+order_verdict_answer = verdict_answer (codes "fits") torn_text
 
 -- The answer on a ring from elsewhere.
-abbrev pub ring_verdict_answer : RingVerdict → List ℕ
-ring_verdict_answer Ground = codes "ground" ++ line_feed
-ring_verdict_answer (NoClash pair) = codes "no clash at " ++ (decimal pair ++ line_feed)
+abbrev pub ring_verdict_answer : Option NoClash → List ℕ
+ring_verdict_answer = verdict_answer (codes "ground") no_clash_text

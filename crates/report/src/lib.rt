@@ -1,21 +1,22 @@
 // The answers of the programs as text.
 #![tactic(auto)]
 
-ghost use Rattle.std.specs.Prelude.{◌≡◌, ◌++◌, IfOk, string_bytes, OnOk};
+ghost use Rattle.std.specs.Prelude.{◌≡◌, ℕ, ◌++◌, List, Some, IfOk, string_bytes, OnOk};
 ghost use Rattle.finds.specs.Finds.{Finds};
 ghost use Rattle.finds.specs.Trees.{Tree};
 ghost use Rattle.trees.specs.Checks.{TreeIn};
 ghost use Rattle.certain.specs.Shown.{Shows};
-ghost use Rattle.report.specs.Answer.{orders_line, near_line, pair_text, ring_answer, refusal_answer, order_verdict_answer, ring_verdict_answer};
+ghost use Rattle.report.specs.Answer.{orders_line, near_line, pair_text, ring_answer, refusal_answer, verdict_answer, order_verdict_answer, ring_verdict_answer};
 ghost use Rattle.report.specs.Tells.{Tells, Lines};
 
 use certain::near::nearest;
 use certain::neighbours::Neighbours;
 use certain::number::orders;
-use grounds::verdict::RingVerdict;
+use grounds::verdict::NoClash;
 use std::alloc::{AllocError, Global};
+use std::fmt::Display;
 use tables::refusal::Refusal;
-use tables::verdict::Verdict;
+use tables::verdict::Torn;
 use text::text;
 use trees::rows::View;
 use trees::walk::graves_at;
@@ -45,7 +46,7 @@ fn write_orders(number: Option<u64>, out: &mut String) -> Result<(), AllocError>
     ensures { OnOk result (string_bytes out.new ≡ string_bytes out.old ++ orders_line number) }
 {
     match number {
-        Some(n) => writeln!(out, "orders {n}").or(Err(AllocError)),
+        Some(n) => writeln!(out, "orders {n}"),
         None => out.push_str("orders many\n"),
     }
 }
@@ -67,7 +68,7 @@ fn write_near(b: u8, found: Option<Neighbours>, out: &mut String) -> Result<(), 
 {
     match found {
         Some(Neighbours { before, behind }) => {
-            writeln!(out, "{b} between {before} and {behind}").or(Err(AllocError))
+            writeln!(out, "{b} between {before} and {behind}")
         }
         None => Ok(()),
     }
@@ -78,8 +79,9 @@ pub fn ring_text(heap: Global, ring: &[u8]) -> Result<String, AllocError>
     ensures { IfOk result (λ s. string_bytes s ≡ ring_answer ring.now) }
 {
     let mut out = String::from_str(heap, "no order\n")?;
-    for k in 0..ring.len() / 2 {
-        write_pair(k, ring[2 * k], ring[2 * k + 1], &mut out)?;
+    let (pairs, _) = ring.as_chunks::<2>();
+    for (k, [a, b]) in pairs.iter().enumerate() {
+        write_pair(k, *a, *b, &mut out)?;
     }
     out.push_str("\n")?;
     Ok(out)
@@ -90,9 +92,9 @@ fn write_pair(k: usize, a: u8, b: u8, out: &mut String) -> Result<(), AllocError
     ensures { OnOk result (string_bytes out.new ≡ string_bytes out.old ++ pair_text k a b) }
 {
     if k == 0 {
-        write!(out, "{a}-{b}").or(Err(AllocError))
+        write!(out, "{a}-{b}")
     } else {
-        write!(out, " {a}-{b}").or(Err(AllocError))
+        write!(out, " {a}-{b}")
     }
 }
 
@@ -100,27 +102,33 @@ fn write_pair(k: usize, a: u8, b: u8, out: &mut String) -> Result<(), AllocError
 pub fn refusal_text(heap: Global, refusal: Refusal) -> Result<String, AllocError>
     ensures { IfOk result (λ s. string_bytes s ≡ refusal_answer refusal) }
 {
-    let number = refusal.number();
-    let place = refusal.place();
-    format!(in heap; "refused {number} at {place}\n")
+    format!(in heap; "{refusal}\n")
+}
+
+// The text of what is amiss, or the word for that nothing is, or want of memory.
+fn verdict_text<T: Display + Drop>(
+    heap: Global,
+    word: &str,
+    verdict: Option<T>,
+) -> Result<String, AllocError>
+    ensures { (text : T → List ℕ) → ((v : T) → T.output v ≡ Some (text v)) → IfOk result (λ s. string_bytes s ≡ verdict_answer word.now text verdict) }
+{
+    match verdict {
+        None => format!(in heap; "{word}\n"),
+        Some(what) => format!(in heap; "{what}\n"),
+    }
 }
 
 // The text of what is said of an order from elsewhere, or want of memory.
-pub fn order_verdict_text(heap: Global, verdict: Verdict) -> Result<String, AllocError>
+pub fn order_verdict_text(heap: Global, verdict: Option<Torn>) -> Result<String, AllocError>
     ensures { IfOk result (λ s. string_bytes s ≡ order_verdict_answer verdict) }
 {
-    match verdict {
-        Verdict::Fitting => String::from_str(heap, "fits\n"),
-        Verdict::Torn { kind, grave } => format!(in heap; "torn {kind} at {grave}\n"),
-    }
+    verdict_text(heap, "fits", verdict)
 }
 
 // The text of what is said of a ring from elsewhere, or want of memory.
-pub fn ring_verdict_text(heap: Global, verdict: RingVerdict) -> Result<String, AllocError>
+pub fn ring_verdict_text(heap: Global, verdict: Option<NoClash>) -> Result<String, AllocError>
     ensures { IfOk result (λ s. string_bytes s ≡ ring_verdict_answer verdict) }
 {
-    match verdict {
-        RingVerdict::Ground => String::from_str(heap, "ground\n"),
-        RingVerdict::NoClash { pair } => format!(in heap; "no clash at {pair}\n"),
-    }
+    verdict_text(heap, "ground", verdict)
 }
