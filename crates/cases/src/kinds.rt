@@ -7,7 +7,6 @@ use seriation::built::Built;
 use std::alloc::{AllocError, Global};
 use std::fmt;
 use tables::orders::verify_order;
-use tables::verdict::Verdict;
 use trees::allowed::allows;
 use trees::rows::View;
 
@@ -36,7 +35,7 @@ impl fmt::Display for Seen {
 // Whether the order fits, by the tally and by the checker of orders; nothing if these differ.
 fn fits(file: &[u8], kinds: &[Graves], order: &[u8]) -> Option<bool> {
     let fits = are_together(order, kinds);
-    let checked = matches!(verify_order(file, order), Ok(Verdict::Fitting));
+    let checked = verify_order(file, order) == Ok(None);
     (fits == checked).then_some(fits)
 }
 

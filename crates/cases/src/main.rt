@@ -32,6 +32,7 @@ use std::alloc::Global;
 use wholes::print_whole;
 
 // The bytes that two hexadecimal digits each stand for; `-` stands for none.
+// Each test program has this line of its own: a library's function would need a contract and a test for it.
 fn bytes_of(heap: Global, text: &str) -> Result<Vec<u8>, FromHexError> {
     hex::decode(heap, if text == "-" { "" } else { text })
 }

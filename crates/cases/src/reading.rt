@@ -1,5 +1,4 @@
 // Cases of the reader of tables.
-use crate::writing::print_refusal;
 use tables::reading::read;
 use tables::room::Room;
 use tables::stored::Table;
@@ -18,7 +17,7 @@ pub fn room_of(branches: &str, kinds: &str, colours: &str, rings: &str) -> anyho
 pub fn print_table(rt: &HostRuntime, file: &[u8], lent: Option<Room>) -> anyhow::Result<()> {
     match read(file, lent) {
         Ok(Table { graves, kinds }) => println!(rt; "taken {graves} {}", kinds.len() / 8)?,
-        Err(refusal) => print_refusal(rt, refusal)?,
+        Err(refusal) => println!(rt; "{refusal}")?,
     }
     Ok(())
 }

@@ -1,6 +1,5 @@
 // Cases of the whole call, with memory lent for 64 graves and 128 kinds.
 use crate::checks::print_ring;
-use crate::writing::print_refusal;
 use grounds::outcome::Outcome;
 use grounds::whole::seriate;
 
@@ -29,7 +28,7 @@ pub fn print_whole(rt: &HostRuntime, file: &[u8]) -> anyhow::Result<()> {
     ) {
         Ok(Outcome::Tree { .. }) => println!(rt; "tree")?,
         Ok(Outcome::Ground { pairs }) => print_ring(rt, file, &ring[..2 * pairs])?,
-        Err(refusal) => print_refusal(rt, refusal)?,
+        Err(refusal) => println!(rt; "{refusal}")?,
     }
     Ok(())
 }

@@ -1,13 +1,5 @@
-// Printing refusals, and texts of the library.
+// Printing texts of the library.
 use answers::printed::{Ending, Printed};
-use tables::refusal::Refusal;
-
-pub fn print_refusal(rt: &HostRuntime, refusal: Refusal) -> anyhow::Result<()> {
-    let number = refusal.number();
-    let place = refusal.place();
-    println!(rt; "refused {number} at {place}")?;
-    Ok(())
-}
 
 // The text as it is, if the run ends as it should: turned away just where the text is a refusal. Else `differs`.
 pub fn print_printed(rt: &HostRuntime, printed: Printed) -> anyhow::Result<()> {

@@ -1,6 +1,7 @@
 // Runs cases from stdin, one to a line, and prints what the checker of rings and the whole call answer.
 //   ring HEX HEX    the file of a table, and the bytes of a ring
 //   whole HEX       the file of a table: `tree`, `ground` if the ring that was found is accepted by the checker, else what went wrong
+// crates/cases runs these cases too, and prints the answers by itself: no library can share that, since no contract speaks of what is printed.
 #![tactic(auto)]
 
 use anyhow::bail;
@@ -13,6 +14,7 @@ use std::alloc::Global;
 use tables::refusal::Refusal;
 
 // The bytes that two hexadecimal digits each stand for; `-` stands for none.
+// Each test program has this line of its own: a library's function would need a contract and a test for it.
 fn bytes_of(heap: Global, text: &str) -> Result<Vec<u8>, FromHexError> {
     hex::decode(heap, if text == "-" { "" } else { text })
 }

@@ -2,6 +2,7 @@
 //   table HEX                      the file, with no memory lent
 //   lent BRANCHES KINDS COLOURS RINGS HEX   the file, with memory of these sizes lent
 //   order HEX HEX                  the file, and the bytes of an order
+// crates/cases runs these cases too, and prints the answers by itself: no library can share that, since no contract speaks of what is printed.
 #![tactic(auto)]
 
 use anyhow::bail;
@@ -15,6 +16,7 @@ use tables::stored::Table;
 use tables::verdict::Torn;
 
 // The bytes that two hexadecimal digits each stand for; `-` stands for none.
+// Each test program has this line of its own: a library's function would need a contract and a test for it.
 fn bytes_of(heap: Global, text: &str) -> Result<Vec<u8>, FromHexError> {
     hex::decode(heap, if text == "-" { "" } else { text })
 }

@@ -18,14 +18,6 @@ enum Question {
 #[derive(Drop)]
 struct UnknownWord;
 
-// The words of a call.
-#[derive(Drop)]
-struct Call {
-    table: String,
-    question: Question,
-    file: String,
-}
-
 impl FromStr for Question {
     type Err = UnknownWord;
 
@@ -36,6 +28,14 @@ impl FromStr for Question {
             _ => Err(UnknownWord),
         }
     }
+}
+
+// The words of a call.
+#[derive(Drop)]
+struct Call {
+    table: String,
+    question: Question,
+    file: String,
 }
 
 // The words of the call, if they are as they should be.
@@ -49,13 +49,14 @@ fn words(rt: &HostRuntime) -> io::Result<Option<Call>> {
     ) else {
         return Ok(None);
     };
-    Ok(
-        word.as_str().parse().ok().map(|question| Call {
-            table,
-            question,
-            file,
-        }),
-    )
+    let Ok(question) = word.as_str().parse() else {
+        return Ok(None);
+    };
+    Ok(Some(Call {
+        table,
+        question,
+        file,
+    }))
 }
 
 // The bytes of a file; where it cannot be read, a sentence on stderr.
