@@ -71,9 +71,6 @@ module _ (R : Cells) (n : ℕ) {i c : ℕ} {u : Tree} (p : Part R n i u) (s : So
   sides : Sounds w.before × Sounds (more w.it w.behind)
   sides = sounds_cut w.before (more w.it w.behind) (subst Sounds w.is (sound_kids u s))
 
-  pub branch_sound : Sound w.it
-  branch_sound = sounds_first w.it w.behind sides.1
-
   -- The cell before a branch that is not the first is the last grave before it.
   pub before_it : (k : ℕ) → suc k ≡ c → (c ≡ i + 1 → ⊥) → EndsWith (all_graves w.before) (grave_in R k)
   before_it k e f = ats_last R (suc i) i 0 w.before (ats_cut R (suc i) i 0 w.before (more w.it w.behind) (subst (Ats R (suc i) i 0) w.is (kids_ats R i u p.0))).0

@@ -40,7 +40,7 @@ fn flanks(part: Subtree, branch: Subtree) -> Option<Neighbours>
         count: part.count,
         root: end,
     };
-    // The last grave before the branch stands in the cell before it: graves come from left to right.
+    // The last grave before the branch stands in the cell before it; to walk to the branch before it, and down to its last grave, would be no plainer.
     let last = part.rows.sets[branch.root - 1];
     Some(Neighbours {
         before: last.trailing_zeros() as u8,

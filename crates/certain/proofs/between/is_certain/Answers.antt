@@ -10,12 +10,9 @@ use Rattle.trees.proofs.Finding.{had_standing}
 use Rattle.certain.specs.Certain.{Between}
 use Rattle.certain.specs.Middle.{Middle}
 use Rattle.certain.specs.Shown.{ShownBy}
-use Rattle.certain.proofs.Descent.{Narrowed, narrowed_start, narrowed_more, decided, decides_not, gone, kids_in, parting}
+use Rattle.certain.proofs.Descent.{Narrowed, narrowed_more, decided, decides_not, gone, kids_in, parting}
 use Rattle.certain.proofs.Sorts.{is_row, not_row}
 use Rattle.certain.proofs.between.is_certain.Goals as goal
-
-pub loop-x-init : goal.loop-x-init
-loop-x-init c = narrowed_start c.args.a c.args.b c.args.c c.root-part.ensures
 
 -- One of the three is in no branch.
 none_between : {a b c : ℕ} {w : WholeTree} {s : Subtree} → Narrowed a b c w s → ((u : Tree) → Is s u → Sound u → Middle a b c u → ⊥) → (f : Finds) (t : Tree) → ShownBy w f t → Decides false (Between f a b c)

@@ -17,9 +17,6 @@ First t done rest = done ≡ none
 start : {s : Subtree} {b : Branches} → WalkBegins s b → Going s b First
 start h = going_start First h refl (λ t p. refl)
 
-pub loop-branch-init : goal.loop-branch-init
-loop-branch-init c = λ t p s. record { it = t; part = p; sound = s; so = λ g h. h }
-
 pub loop-branch-preserved : goal.loop-branch-preserved
 loop-branch-preserved c = λ t p s.
     let w = c.loop-branch.invariant t p s in

@@ -1,10 +1,7 @@
 use Rattle.std.proofs.Common.{Option, sym, subst}
 use Rattle.certain.specs.declared.neighbours.Neighbours.{Neighbours}
-use Rattle.certain.proofs.Way.{SoFar, so_far_start, so_far_more, so_far_end}
+use Rattle.certain.proofs.Way.{SoFar, so_far_more, so_far_end}
 use Rattle.certain.proofs.near.nearest.Goals as goal
-
-pub loop-branch-init : goal.loop-branch-init
-loop-branch-init c = so_far_start c.args.b c.root-part.ensures
 
 pub loop-branch-preserved : goal.loop-branch-preserved
 loop-branch-preserved c =
