@@ -1,10 +1,12 @@
 // What a program prints.
-ghost use Rattle.answers.specs.Printing.{Prints};
+ghost use Rattle.answers.specs.Printing.{Prints, status_of};
 ghost use Rattle.report.specs.Answer.{refusal_answer};
-ghost use Rattle.std.specs.Prelude.{IfOk, string_bytes};
+ghost use Rattle.std.specs.Prelude.{◌≡◌, IfOk, string_bytes};
+ghost use Rattle.std.specs.Process.{exit_status};
 
 use report::refusal_text;
 use std::alloc::{AllocError, Global};
+use std::process::{ExitCode, Termination};
 use tables::refusal::Refusal;
 
 // How a run ends: with an answer, or turned away.
@@ -12,6 +14,18 @@ use tables::refusal::Refusal;
 pub enum Ending {
     Answered,
     TurnedAway,
+}
+
+// As `main` returns it.
+impl Termination for Ending {
+    fn report<R: Eprint>(self, _rt: &R) -> ExitCode
+        ensures { exit_status result ≡ status_of self }
+    {
+        match self {
+            Ending::Answered => ExitCode::SUCCESS,
+            Ending::TurnedAway => ExitCode::FAILURE,
+        }
+    }
 }
 
 // The text for stdout, and how the run ends.

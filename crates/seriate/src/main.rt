@@ -3,16 +3,15 @@
 
 use answers::printed::Ending;
 use answers::seriating::seriate_text;
-use std::process::ExitCode;
 use std::{env, fs};
 
-fn run(rt: &HostRuntime) -> anyhow::Result<Ending> {
-    let mut args = env::args(rt)?.skip(1);
+fn main(rt: HostRuntime) -> anyhow::Result<Ending> {
+    let mut args = env::args(&rt)?.skip(1);
     let (Some(path), None) = (args.next(), args.next()) else {
         eprintln!(rt; "seriate: wrong words. Call it as: seriate TABLE")?;
         return Ok(Ending::TurnedAway);
     };
-    match fs::read(rt, path.as_str()) {
+    match fs::read(&rt, path.as_str()) {
         Ok(file) => {
             let printed = seriate_text(rt.alloc(), file.as_slice())?;
             rt.print(printed.text)?;
@@ -22,12 +21,5 @@ fn run(rt: &HostRuntime) -> anyhow::Result<Ending> {
             eprintln!(rt; "seriate: {path} cannot be read: {e}")?;
             Ok(Ending::TurnedAway)
         }
-    }
-}
-
-fn main(rt: HostRuntime) -> anyhow::Result<ExitCode> {
-    match run(&rt)? {
-        Ending::Answered => Ok(ExitCode::SUCCESS),
-        Ending::TurnedAway => Ok(ExitCode::FAILURE),
     }
 }

@@ -3,7 +3,6 @@
 
 use answers::printed::Ending;
 use answers::verifying::{order_text, ring_text};
-use std::process::ExitCode;
 use std::str::FromStr;
 use std::{env, fs, io};
 
@@ -70,17 +69,17 @@ fn bytes_of(rt: &HostRuntime, path: &str) -> io::Result<Option<Vec<u8>>> {
     }
 }
 
-fn run(rt: &HostRuntime) -> anyhow::Result<Ending> {
-    let Some(call) = words(rt)? else {
+fn main(rt: HostRuntime) -> anyhow::Result<Ending> {
+    let Some(call) = words(&rt)? else {
         eprintln!(rt;
             "verify: wrong words. Call it as: verify TABLE order FILE, or: verify TABLE ring FILE"
         )?;
         return Ok(Ending::TurnedAway);
     };
-    let Some(table) = bytes_of(rt, call.table.as_str())? else {
+    let Some(table) = bytes_of(&rt, call.table.as_str())? else {
         return Ok(Ending::TurnedAway);
     };
-    let Some(file) = bytes_of(rt, call.file.as_str())? else {
+    let Some(file) = bytes_of(&rt, call.file.as_str())? else {
         return Ok(Ending::TurnedAway);
     };
     let printed = match call.question {
@@ -89,11 +88,4 @@ fn run(rt: &HostRuntime) -> anyhow::Result<Ending> {
     };
     rt.print(printed.text)?;
     Ok(printed.ending)
-}
-
-fn main(rt: HostRuntime) -> anyhow::Result<ExitCode> {
-    match run(&rt)? {
-        Ending::Answered => Ok(ExitCode::SUCCESS),
-        Ending::TurnedAway => Ok(ExitCode::FAILURE),
-    }
 }
