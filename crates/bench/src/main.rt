@@ -2,24 +2,19 @@
 // It prints how many have a tree, how many have no order and how many are refused; with the word time, nanoseconds for each table that is answered too.
 #![tactic(auto)]
 
+ghost use Rattle.std.specs.Prelude.{length};
+ghost use Rattle.std.specs.Iterator.{at_most};
+
 use answers::printed::Ending;
 use answers::seriating::seriate_text;
-use anyhow::anyhow;
+use anyhow::bail;
 use grounds::outcome::Outcome;
 use grounds::whole::seriate;
 use seriation::building::build;
 use seriation::built::Built;
 use std::alloc::{AllocError, Global};
 use std::time::Instant;
-use std::{env, fs};
-
-// How a table is answered.
-#[derive(Clone, Copy, Drop)]
-enum Mode {
-    Tree,
-    Whole,
-    Text,
-}
+use std::{env, fmt, fs};
 
 // What a table gets.
 #[derive(Clone, Copy, Drop)]
@@ -30,50 +25,52 @@ enum Answer {
 }
 
 // How many tables there were with a tree, without an order, and refused.
-#[derive(Clone, Copy, Drop)]
+#[derive(Clone, Copy, Default, Drop)]
 struct Tally {
     trees: u64,
     none: u64,
     refused: u64,
 }
 
-// The mode by its word; any other word is for the tree alone.
-fn mode_of(word: &str) -> Mode {
-    match word {
-        "whole" => Mode::Whole,
-        "text" => Mode::Text,
-        _ => Mode::Tree,
+impl Tally {
+    // One answer more.
+    fn count(&mut self, answer: Answer) {
+        let number = match answer {
+            Answer::Tree => &mut self.trees,
+            Answer::NoOrder => &mut self.none,
+            Answer::Refused => &mut self.refused,
+        };
+        *number = number.saturating_add(1);
     }
 }
 
-// The tally with one answer more.
-fn tallied(tally: Tally, answer: Answer) -> Tally {
-    match answer {
-        Answer::Tree => Tally {
-            trees: tally.trees.saturating_add(1),
-            ..tally
-        },
-        Answer::NoOrder => Tally {
-            none: tally.none.saturating_add(1),
-            ..tally
-        },
-        Answer::Refused => Tally {
-            refused: tally.refused.saturating_add(1),
-            ..tally
-        },
+impl fmt::Display for Tally {
+    fn fmt<W: fmt::Write>(&self, f: &mut fmt::Formatter<W>) -> fmt::Result {
+        let Tally {
+            trees,
+            none,
+            refused,
+        } = *self;
+        write!(f, "trees {trees} none {none} refused {refused}")
     }
 }
 
-// The length of the table at the front of the bytes, if they begin with one.
-fn table_length(bytes: &[u8]) -> Option<usize> {
-    let [_, kinds, ..] = bytes else {
-        return None;
-    };
-    let length = 2 + 8 * *kinds as usize;
-    if length <= bytes.len() {
-        Some(length)
-    } else {
-        None
+// The tables of a file, one behind the other, up to one that is cut short.
+#[derive(Clone, Copy, Drop)]
+struct Tables<'a>(&'a [u8]);
+
+impl<'a> Iterator for Tables<'a> {
+    type Item = &'a [u8];
+
+    ghost remaining = { λ s. at_most (length s.0.now) };
+
+    fn next(&mut self) -> Option<&'a [u8]> {
+        let [_, kinds, ..] = self.0 else {
+            return None;
+        };
+        let (table, rest) = self.0.split_at_checked(2 + 8 * *kinds as usize)?;
+        self.0 = rest;
+        Some(table)
     }
 }
 
@@ -137,74 +134,56 @@ fn text_one(heap: Global, file: &[u8]) -> Result<Answer, AllocError> {
     }
 }
 
-// The answer to one table.
-fn answer_one(heap: Global, file: &[u8], mode: Mode) -> Result<Answer, AllocError> {
-    match mode {
-        Mode::Tree => Ok(build_one(file)),
-        Mode::Whole => Ok(seriate_one(file)),
-        Mode::Text => text_one(heap, file),
-    }
-}
-
-// Answers all tables once.
-fn answer_all(
-    heap: Global,
-    bytes: &[u8],
-    mode: Mode,
-    mut tally: Tally,
-) -> Result<Tally, AllocError> {
-    let mut at = 0usize;
-    for _ in 0..bytes.len() {
-        if at >= bytes.len() {
-            return Ok(tally);
-        }
-        let rest = &bytes[at..];
-        let Some(length) = table_length(rest) else {
-            return Ok(tally);
-        };
-        if length > rest.len() {
-            return Ok(tally);
-        }
-        tally = tallied(tally, answer_one(heap, &rest[0..length], mode)?);
-        at = at.saturating_add(length);
-    }
-    Ok(tally)
-}
-
-fn run(rt: &HostRuntime) -> anyhow::Result<()> {
-    let mut args = env::args(rt)?;
-    let _ = args.next();
-    let (Some(word), Some(path), Some(rounds)) = (args.next(), args.next(), args.next()) else {
-        return Err(anyhow!("call it as: bench tree|whole|text FILE ROUNDS [time]"));
-    };
-    let mode = mode_of(word.as_str());
-    let rounds = rounds.as_str().parse::<u32>()?;
-    let timed = args.next().is_some();
-    let bytes = fs::read(rt, path.as_str())?;
-    let mut tally = Tally {
-        trees: 0,
-        none: 0,
-        refused: 0,
-    };
-    let start = Instant::now(rt)?;
-    for _ in 0..rounds {
-        tally = answer_all(rt.alloc(), bytes.as_slice(), mode, tally)?;
-    }
-    let elapsed = start.elapsed(rt)?.as_nanos();
-    let Tally {
-        trees,
-        none,
-        refused,
-    } = tally;
-    println!(rt; "trees {trees} none {none} refused {refused}")?;
-    if timed {
-        let answered = (trees.saturating_add(none)).max(1) as u128;
-        let each = elapsed / answered;
-        println!(rt; "nanoseconds for each {each}")?;
+// Answers all tables, and counts the answers.
+fn answer_all<F: Fn(&[u8]) -> Result<Answer, AllocError>>(
+    tables: Tables,
+    answer: F,
+    tally: &mut Tally,
+) -> Result<(), AllocError>
+    requires { F.IsAlwaysCallable answer }
+{
+    for table in tables {
+        tally.count(answer(table)?);
     }
     Ok(())
 }
 
+// Answers all tables, so many times over.
+fn answer_rounds<F: Fn(&[u8]) -> Result<Answer, AllocError>>(
+    tables: Tables,
+    rounds: u32,
+    answer: F,
+) -> Result<Tally, AllocError>
+    requires { F.IsAlwaysCallable answer }
+{
+    let mut tally = Tally::default();
+    for _ in 0..rounds {
+        answer_all(tables, &answer, &mut tally)?;
+    }
+    Ok(tally)
+}
+
 fn main(rt: HostRuntime) -> anyhow::Result<()> {
-    run(&rt)
+    let mut args = env::args(&rt)?.skip(1);
+    let (Some(word), Some(path), Some(rounds)) = (args.next(), args.next(), args.next()) else {
+        bail!("call it as: bench tree|whole|text FILE ROUNDS [time]");
+    };
+    let rounds = rounds.as_str().parse()?;
+    let timed = args.next().is_some();
+    let file = fs::read(&rt, path.as_str())?;
+    let tables = Tables(file.as_slice());
+    let start = Instant::now(&rt)?;
+    // any other word is for the tree alone
+    let tally = match word.as_str() {
+        "whole" => answer_rounds(tables, rounds, |table| Ok(seriate_one(table)))?,
+        "text" => answer_rounds(tables, rounds, |table| text_one(rt.alloc(), table))?,
+        _ => answer_rounds(tables, rounds, |table| Ok(build_one(table)))?,
+    };
+    let elapsed = start.elapsed(&rt)?.as_nanos();
+    println!(rt; "{tally}")?;
+    if timed {
+        let answered = tally.trees.saturating_add(tally.none).max(1);
+        println!(rt; "nanoseconds for each {}", elapsed / answered as u128)?;
+    }
+    Ok(())
 }

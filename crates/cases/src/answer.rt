@@ -1,32 +1,29 @@
 // Cases of what is printed for a table of up to seven graves, against all orders, one by one.
 use crate::drawn::{Drawn, read_tree};
 use crate::nearest::{Near, all_near};
-use crate::permuting::all_orders;
 use crate::rings::read_ring;
-use crate::tallying::{Found, kinds_of, tally};
+use crate::tallying::{Found, all_orders, kinds_of, tally};
 use crate::writing::print_printed;
 use answers::printed::Ending;
 use answers::seriating::seriate_text;
 use answers::verifying::ring_text;
-use anyhow::anyhow;
+use anyhow::{Context, ensure};
 use std::alloc::{AllocError, Global};
 
 // The lines that are expected behind the tree.
-fn lines_of(heap: Global, orders: u32, all: &[Near]) -> Result<String, AllocError> {
+fn lines_of(heap: Global, orders: usize, all: &[Near]) -> Result<String, AllocError> {
     let mut out = format!(in heap; "orders {orders}\n")?;
     for near in all {
-        let Near { b, before, behind } = *near;
-        writeln!(out, "{b} between {before} and {behind}").or(Err(AllocError))?;
+        writeln!(out, "{near}")?;
     }
     Ok(out)
 }
 
 // What of it does not depend on how the tree is arranged: the number of orders, and the graves that have a line.
-fn summary_of(heap: Global, orders: u32, all: &[Near]) -> Result<String, AllocError> {
+fn summary_of(heap: Global, orders: usize, all: &[Near]) -> Result<String, AllocError> {
     let mut out = format!(in heap; "orders {orders} certain")?;
     for near in all {
-        let b = near.b;
-        write!(out, " {b}").or(Err(AllocError))?;
+        write!(out, " {}", near.b)?;
     }
     Ok(out)
 }
@@ -35,25 +32,22 @@ fn summary_of(heap: Global, orders: u32, all: &[Near]) -> Result<String, AllocEr
 fn tree_summary(heap: Global, found: &Found, tree: &Drawn, rest: &str) -> anyhow::Result<String> {
     let all = all_near(heap, found, tree.front.as_slice())?;
     let expected = lines_of(heap, found.orders, all.as_slice())?;
-    if expected.as_str() != rest {
-        return Err(anyhow!("other lines behind the tree"));
-    }
-    let summary = summary_of(heap, found.orders, all.as_slice())?;
-    Ok(summary)
+    ensure!(expected.as_str() == rest, "other lines behind the tree");
+    Ok(summary_of(heap, found.orders, all.as_slice())?)
 }
 
 // The summary of a text without an order, if all of the text is as it should be and the checker takes the ring.
 fn ring_summary(heap: Global, file: &[u8], text: &str) -> anyhow::Result<String> {
-    let Some(line) = text.strip_prefix("no order\n") else {
-        return Err(anyhow!("an order where none fits"));
-    };
-    let ring = read_ring(heap, line.as_bytes())?;
+    let line = text
+        .strip_prefix("no order\n")
+        .context("an order where none fits")?;
+    let ring = read_ring(heap, line)?;
     let checked = ring_text(heap, file, ring.as_slice())?;
-    if checked.text.as_str() != "ground\n" {
-        return Err(anyhow!("a ring that is no ground"));
-    }
-    let summary = String::from_str(heap, "no order")?;
-    Ok(summary)
+    ensure!(
+        checked.text.as_str() == "ground\n",
+        "a ring that is no ground"
+    );
+    Ok(String::from_str(heap, "no order")?)
 }
 
 // The summary of the text for a table that is taken, if all of it is as it should be.
@@ -65,13 +59,12 @@ fn summary(heap: Global, file: &[u8], text: &str) -> anyhow::Result<String> {
     if found.orders == 0 {
         return ring_summary(heap, file, text);
     }
-    let Some((line, rest)) = text.split_once('\n') else {
-        return Err(anyhow!("a text of no line"));
-    };
+    let (line, rest) = text.split_once('\n').context("a text of no line")?;
     let tree = read_tree(heap, line.as_bytes(), graves)?;
-    if !tree.allows_just(orders.as_slice(), kinds.as_slice()) {
-        return Err(anyhow!("a tree of other orders"));
-    }
+    ensure!(
+        tree.allows_just(orders.as_slice(), kinds.as_slice()),
+        "a tree of other orders"
+    );
     tree_summary(heap, &found, &tree, rest)
 }
 

@@ -1,6 +1,6 @@
 // Trees of up to seven graves as they are printed, read back. Each grave is one digit.
-use crate::sets::{are_together, first_place, only, union_of};
-use anyhow::anyhow;
+use crate::sets::{Graves, are_together, union_of};
+use anyhow::{Context, bail, ensure};
 use std::alloc::Global;
 
 // A tree by what it asks of an order.
@@ -9,44 +9,34 @@ pub struct Drawn {
     // the graves from left to right
     pub front: Vec<u8>,
     // for each place with branches, the graves below it
-    places: Vec<u8>,
+    places: Vec<Graves>,
     // for each row, the graves below each of its branches
-    rows: Vec<Vec<u8>>,
+    rows: Vec<Vec<Graves>>,
 }
 
 // Whether the branches come in the written order or in the reverse of it.
-fn is_in_row(order: &[u8], branches: &[u8]) -> bool {
-    let mut onward = true;
-    let mut backward = true;
-    for pair in branches.windows(2) {
-        if first_place(order, pair[0]) < first_place(order, pair[1]) {
-            backward = false;
-        } else {
-            onward = false;
-        }
-    }
-    onward || backward
+fn is_in_row(order: &[u8], branches: &[Graves]) -> bool {
+    let places = branches.iter().map(|branch| branch.first_place(order));
+    let turned = branches
+        .iter()
+        .rev()
+        .map(|branch| branch.first_place(order));
+    places.is_sorted() || turned.is_sorted()
 }
 
 impl Drawn {
     // Whether the tree allows the order.
     fn allows(&self, order: &[u8]) -> bool {
-        for row in self.rows.as_slice() {
-            if !is_in_row(order, row.as_slice()) {
-                return false;
-            }
-        }
         are_together(order, self.places.as_slice())
+            && self.rows.iter().all(|row| is_in_row(order, row.as_slice()))
     }
 
     // Whether the tree allows just those of the orders in which each kind stands together.
-    pub fn allows_just(&self, orders: &[Vec<u8>], kinds: &[u8]) -> bool {
-        for order in orders {
-            if self.allows(order.as_slice()) != are_together(order.as_slice(), kinds) {
-                return false;
-            }
-        }
-        true
+    pub fn allows_just(&self, orders: &[Vec<u8>], kinds: &[Graves]) -> bool {
+        orders.iter().all(|order| {
+            let order = order.as_slice();
+            self.allows(order) == are_together(order, kinds)
+        })
     }
 }
 
@@ -71,7 +61,7 @@ struct Reader {
     tree: Drawn,
     open: Vec<Open>,
     // the graves below each branch that is done and in no bracket that is closed
-    done: Vec<u8>,
+    done: Vec<Graves>,
     // whether a branch has to come next
     due: bool,
 }
@@ -86,23 +76,23 @@ impl Reader {
 
     // A grave that is there, for the first time.
     fn grave(&mut self, grave: u8) -> anyhow::Result<()> {
-        if grave >= self.graves || self.tree.front.as_slice().contains(&grave) {
-            return Err(anyhow!("a grave that is not there, or twice"));
-        }
+        ensure!(
+            grave < self.graves && !self.tree.front.contains(&grave),
+            "a grave that is not there, or twice"
+        );
         self.tree.front.push(grave)?;
-        self.done.push(only(grave))?;
+        self.done.push(Graves::only(grave))?;
         self.due = false;
         Ok(())
     }
 
     // The closing bracket of the branches that are done since the last open one.
     fn end(&mut self, sort: Sort) -> anyhow::Result<()> {
-        let Some(open) = self.open.pop() else {
-            return Err(anyhow!("a bracket that was not opened"));
-        };
-        if open.sort != sort || open.before > self.done.len() {
-            return Err(anyhow!("a bracket that ends another"));
-        }
+        let open = self.open.pop().context("a bracket that was not opened")?;
+        ensure!(
+            open.sort == sort && open.before <= self.done.len(),
+            "a bracket that ends another"
+        );
         let branches = self.done.split_off(open.before)?;
         let set = union_of(branches.as_slice());
         self.done.push(set)?;
@@ -111,14 +101,14 @@ impl Reader {
     }
 
     // Keeps the branches of a row; two branches or more belong in braces, three or more in brackets.
-    fn keep(&mut self, sort: Sort, branches: Vec<u8>) -> anyhow::Result<()> {
+    fn keep(&mut self, sort: Sort, branches: Vec<Graves>) -> anyhow::Result<()> {
         match sort {
             Sort::AnyOrder if branches.len() >= 2 => Ok(()),
             Sort::Row if branches.len() >= 3 => {
                 self.tree.rows.push(branches)?;
                 Ok(())
             }
-            _ => Err(anyhow!("a bracket with too few branches")),
+            _ => bail!("a bracket with too few branches"),
         }
     }
 
@@ -134,7 +124,7 @@ impl Reader {
                 self.due = true;
                 Ok(())
             }
-            _ => Err(anyhow!("a byte out of place")),
+            _ => bail!("a byte out of place"),
         }
     }
 }
@@ -156,8 +146,9 @@ pub fn read_tree(heap: Global, line: &[u8], graves: u8) -> anyhow::Result<Drawn>
     for byte in line {
         reader.take(*byte)?;
     }
-    if reader.due || !reader.open.is_empty() || reader.tree.front.len() != graves as usize {
-        return Err(anyhow!("a tree that is cut short"));
-    }
+    ensure!(
+        !reader.due && reader.open.is_empty() && reader.tree.front.len() == graves as usize,
+        "a tree that is cut short"
+    );
     Ok(reader.tree)
 }

@@ -1,62 +1,67 @@
 // Cases of trees, kind after kind, against all orders, one by one of up to seven graves.
-use crate::permuting::all_orders;
-use crate::sets::are_together;
-use crate::tallying::kinds_of;
-use anyhow::anyhow;
+use crate::sets::{Graves, are_together};
+use crate::tallying::{all_orders, kinds_of};
+use anyhow::bail;
 use seriation::building::build;
 use seriation::built::Built;
 use std::alloc::{AllocError, Global};
+use std::fmt;
 use tables::orders::verify_order;
-use tables::verdict::Verdict;
 use trees::allowed::allows;
 use trees::rows::View;
 
-// What is seen of a tree and of the orders that fit.
+// What is seen of a table and of the orders that fit.
 #[derive(Clone, Copy, Drop)]
 enum Seen {
     // the tree allows just the orders that fit, which are so many
-    Orders(u32),
+    Orders(usize),
     // no order fits, as was found at this kind
     NoOrder(usize),
     Differs,
+    Refused,
+}
+
+impl fmt::Display for Seen {
+    fn fmt<W: fmt::Write>(&self, f: &mut fmt::Formatter<W>) -> fmt::Result {
+        match *self {
+            Seen::Orders(found) => write!(f, "{found}"),
+            Seen::NoOrder(kind) => write!(f, "none {kind}"),
+            Seen::Differs => write!(f, "differs"),
+            Seen::Refused => write!(f, "refused"),
+        }
+    }
 }
 
 // Whether the order fits, by the tally and by the checker of orders; nothing if these differ.
-fn fits(file: &[u8], kinds: &[u8], order: &[u8]) -> Option<bool> {
+fn fits(file: &[u8], kinds: &[Graves], order: &[u8]) -> Option<bool> {
     let fits = are_together(order, kinds);
-    let checked = matches!(verify_order(file, order), Ok(Verdict::Fitting));
-    if fits == checked { Some(fits) } else { None }
+    let checked = verify_order(file, order) == Ok(None);
+    (fits == checked).then_some(fits)
 }
 
 // The tree in the rows, and all orders.
-fn compare(view: View, count: usize, file: &[u8], kinds: &[u8], orders: &[Vec<u8>]) -> Seen {
-    let mut found = 0u32;
-    for order in orders {
-        let Some(fits) = fits(file, kinds, order.as_slice()) else {
-            return Seen::Differs;
-        };
-        if allows(view, count, order.as_slice()) != Some(fits) {
-            return Seen::Differs;
-        }
-        if fits {
-            found = found.saturating_add(1);
-        }
+fn compare(view: View, count: usize, file: &[u8], kinds: &[Graves], orders: &[Vec<u8>]) -> Seen {
+    let agree = |order: &Vec<u8>| {
+        let fits = fits(file, kinds, order.as_slice());
+        fits.is_some() && allows(view, count, order.as_slice()) == fits
+    };
+    if orders.iter().all(agree) {
+        let fitting = |order: &&Vec<u8>| are_together(order.as_slice(), kinds);
+        Seen::Orders(orders.iter().filter(fitting).count())
+    } else {
+        Seen::Differs
     }
-    Seen::Orders(found)
 }
 
 // Whether no order fits.
-fn none_fits(file: &[u8], kinds: &[u8], orders: &[Vec<u8>]) -> bool {
-    for order in orders {
-        if fits(file, kinds, order.as_slice()) != Some(false) {
-            return false;
-        }
-    }
-    true
+fn none_fits(file: &[u8], kinds: &[Graves], orders: &[Vec<u8>]) -> bool {
+    orders
+        .iter()
+        .all(|order| fits(file, kinds, order.as_slice()) == Some(false))
 }
 
-// What is seen of a table, or that it is refused.
-fn look(file: &[u8], kinds: &[u8], orders: &[Vec<u8>]) -> Option<Seen> {
+// What is seen of a table.
+fn look(file: &[u8], kinds: &[Graves], orders: &[Vec<u8>]) -> Seen {
     let mut parents = [0u8; 13];
     let mut sorts = [0u8; 13];
     let mut places = [0u8; 13];
@@ -77,40 +82,28 @@ fn look(file: &[u8], kinds: &[u8], orders: &[Vec<u8>]) -> Option<Seen> {
                 places: &places,
                 sets: &sets,
             };
-            Some(compare(view, count, file, kinds, orders))
+            compare(view, count, file, kinds, orders)
         }
-        Ok(Built::NoOrder { kind }) if none_fits(file, kinds, orders) => Some(Seen::NoOrder(kind)),
-        Ok(Built::NoOrder { .. }) => Some(Seen::Differs),
-        Err(_) => None,
+        Ok(Built::NoOrder { kind }) if none_fits(file, kinds, orders) => Seen::NoOrder(kind),
+        Ok(Built::NoOrder { .. }) => Seen::Differs,
+        Err(_) => Seen::Refused,
     }
 }
 
 // The file with only its first kinds.
 fn first_kinds(heap: Global, file: &[u8], kinds: u8) -> Result<Vec<u8>, AllocError> {
-    let mut front = Vec::new(heap);
-    front.extend_from_slice(file)?;
+    let mut front = file.to_vec(heap)?;
     front.truncate(2 + 8 * kinds as usize);
-    if front.len() > 1 {
-        front[1] = kinds;
+    if let [_, number, ..] = front.as_mut_slice() {
+        *number = kinds;
     }
     Ok(front)
-}
-
-fn print_seen(rt: &HostRuntime, file: &[u8], orders: &[Vec<u8>]) -> anyhow::Result<()> {
-    let kinds = kinds_of(rt.alloc(), file)?;
-    match look(file, kinds.as_slice(), orders) {
-        Some(Seen::Orders(found)) => print!(rt; "{found}")?,
-        Some(Seen::NoOrder(kind)) => print!(rt; "none {kind}")?,
-        Some(Seen::Differs) => print!(rt; "differs")?,
-        None => print!(rt; "refused")?,
-    }
-    Ok(())
 }
 
 // For each number of first kinds how many orders fit, or `none K`.
 pub fn print_kinds(rt: &HostRuntime, file: &[u8]) -> anyhow::Result<()> {
     let [graves, kinds, ..] = file else {
-        return Err(anyhow!("a file that is no table"));
+        bail!("a file that is no table");
     };
     let orders = all_orders(rt.alloc(), *graves)?;
     for j in 0..=*kinds {
@@ -118,7 +111,9 @@ pub fn print_kinds(rt: &HostRuntime, file: &[u8]) -> anyhow::Result<()> {
             print!(rt; " ")?;
         }
         let front = first_kinds(rt.alloc(), file, j)?;
-        print_seen(rt, front.as_slice(), orders.as_slice())?;
+        let kinds = kinds_of(rt.alloc(), front.as_slice())?;
+        let seen = look(front.as_slice(), kinds.as_slice(), orders.as_slice());
+        print!(rt; "{seen}")?;
     }
     println!(rt; "")?;
     Ok(())

@@ -13,10 +13,8 @@
 mod answer;
 mod checks;
 mod drawn;
-mod hex;
 mod kinds;
 mod nearest;
-mod permuting;
 mod reading;
 mod rings;
 mod sets;
@@ -25,12 +23,19 @@ mod wholes;
 mod writing;
 
 use answer::{print_answer, print_count, print_text};
-use anyhow::anyhow;
+use anyhow::bail;
 use checks::{print_order, print_ring};
-use hex::bytes_of;
+use hex::FromHexError;
 use kinds::print_kinds;
 use reading::{print_table, room_of};
+use std::alloc::Global;
 use wholes::print_whole;
+
+// The bytes that two hexadecimal digits each stand for; `-` stands for none.
+// Each test program has this line of its own: a library's function would need a contract and a test for it.
+fn bytes_of(heap: Global, text: &str) -> Result<Vec<u8>, FromHexError> {
+    hex::decode(heap, if text == "-" { "" } else { text })
+}
 
 // One case by its words.
 fn run_case(rt: &HostRuntime, words: &[&str]) -> anyhow::Result<()> {
@@ -54,19 +59,15 @@ fn run_case(rt: &HostRuntime, words: &[&str]) -> anyhow::Result<()> {
         ["answer", file] => print_answer(rt, bytes_of(heap, file)?.as_slice()),
         ["count", file] => print_count(rt, bytes_of(heap, file)?.as_slice()),
         ["text", file] => print_text(rt, bytes_of(heap, file)?.as_slice()),
-        _ => Err(anyhow!("a line that is no case")),
+        _ => bail!("a line that is no case"),
     }
-}
-
-fn run(rt: &HostRuntime) -> anyhow::Result<()> {
-    for line in rt.lines(rt.alloc()) {
-        let line = line?;
-        let words: Vec<&str> = line.as_str().split(' ').collect(rt.alloc())?;
-        run_case(rt, words.as_slice())?;
-    }
-    Ok(())
 }
 
 fn main(rt: HostRuntime) -> anyhow::Result<()> {
-    run(&rt)
+    for line in rt.lines(rt.alloc()) {
+        let line = line?;
+        let words: Vec<&str> = line.as_str().split(' ').collect(rt.alloc())?;
+        run_case(&rt, words.as_slice())?;
+    }
+    Ok(())
 }

@@ -1,7 +1,5 @@
 // Cases of the whole call, with memory lent for 64 graves and 128 kinds.
 use crate::checks::print_ring;
-use crate::writing::print_refusal;
-use anyhow::anyhow;
 use grounds::outcome::Outcome;
 use grounds::whole::seriate;
 
@@ -28,16 +26,9 @@ pub fn print_whole(rt: &HostRuntime, file: &[u8]) -> anyhow::Result<()> {
         &mut queue,
         &mut ring,
     ) {
-        Ok(Outcome::Tree { .. }) => {
-            println!(rt; "tree")?;
-            Ok(())
-        }
-        Ok(Outcome::Ground { pairs }) => {
-            if pairs > 4032 {
-                return Err(anyhow!("a ring that is too long"));
-            }
-            print_ring(rt, file, &ring[0..2 * pairs])
-        }
-        Err(refusal) => print_refusal(rt, refusal),
+        Ok(Outcome::Tree { .. }) => println!(rt; "tree")?,
+        Ok(Outcome::Ground { pairs }) => print_ring(rt, file, &ring[..2 * pairs])?,
+        Err(refusal) => println!(rt; "{refusal}")?,
     }
+    Ok(())
 }

@@ -1,21 +1,13 @@
-// Printing refusals, and texts of the library.
+// Printing texts of the library.
 use answers::printed::{Ending, Printed};
-use tables::refusal::Refusal;
-
-pub fn print_refusal(rt: &HostRuntime, refusal: Refusal) -> anyhow::Result<()> {
-    let number = refusal.number();
-    let place = refusal.place();
-    println!(rt; "refused {number} at {place}")?;
-    Ok(())
-}
 
 // The text as it is, if the run ends as it should: turned away just where the text is a refusal. Else `differs`.
 pub fn print_printed(rt: &HostRuntime, printed: Printed) -> anyhow::Result<()> {
     let refused = printed.text.as_str().starts_with("refused ");
-    if refused != matches!(printed.ending, Ending::TurnedAway) {
+    if refused == matches!(printed.ending, Ending::TurnedAway) {
+        rt.print(printed.text)?;
+    } else {
         println!(rt; "differs: the run ends otherwise than the text says")?;
-        return Ok(());
     }
-    rt.print(printed.text)?;
     Ok(())
 }

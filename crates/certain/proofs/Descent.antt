@@ -8,23 +8,27 @@ use Rattle.finds.specs.Sets.{bit}
 use Rattle.finds.specs.Trees.{Tree, grave, any, row, Trees, none, more}
 use Rattle.finds.proofs.Counts.{count_ts_plus}
 use Rattle.finds.proofs.Size.{some_nodes}
-use Rattle.trees.specs.Cells.{nodes, all_nodes, sets_of, kids, Cells, Body, Holds, Part, Sound}
+use Rattle.trees.specs.Cells.{nodes, all_nodes, sets_of, kids, Cells, Body, Holds, Sound}
 use Rattle.trees.specs.Rows.{seen}
+use Rattle.trees.specs.Subtrees.{Is, Within}
 use Rattle.trees.specs.Walks.{BranchWith}
-use Rattle.trees.specs.declared.rows.View.{View}
-use Rattle.trees.proofs.Cells.{holds_part}
+use Rattle.trees.specs.Wholes.{Within as Whole}
+use Rattle.trees.specs.declared.subtree.Subtree.{Subtree}
+use Rattle.trees.specs.declared.whole.WholeTree.{WholeTree}
+use Rattle.trees.proofs.Roots.{root_is}
 use Rattle.trees.proofs.Sets.{sound_kids, bit_set, bit_sets}
+use Rattle.trees.proofs.Stepping.{branch_is}
 use Rattle.certain.specs.Certain.{Between}
-use Rattle.certain.specs.Shown.{Shows}
+use Rattle.certain.specs.Shown.{ShownBy}
 use Rattle.certain.specs.Middle.{In, InSome, Across, Sides, Middle, Middles}
-use Rattle.trees.proofs.Walking.{with_part, with_sound}
+use Rattle.trees.proofs.Walking.{with_sound}
 use Rattle.certain.proofs.Exact.{between_middle}
 use Rattle.certain.proofs.Middle.{Once, in_right, middle_in, middles_at, at_middles, at_sides}
 
--- The way down the tree has come to cell i, where a part of it stands of which P holds.
-pub record Come (R : Cells) (n i : ℕ) (P : Tree → Type 0) : Type 0 where
+-- The way down the tree has come to this part of it, of which P holds.
+pub record Come (s : Subtree) (P : Tree → Type 0) : Type 0 where
   pub it : Tree
-  pub part : Part R n i it
+  pub part : Is s it
   pub sound : Sound it
   pub so : P it
 
@@ -146,36 +150,37 @@ gone g ts e i = let z = bit_sets g ts in omega arith
 
 -- ---- the answer for the whole tree
 
--- b is in the middle of the tree just if it is in the middle of the part in cell i.
-abbrev pub Narrowed : ℕ → ℕ → ℕ → Cells → ℕ → ℕ → Type 0
-Narrowed a b c R n i =
-    (t : Tree) → Holds R n t → Sound t → Come R n i (λ u. (Middle a b c t → Middle a b c u) × (Middle a b c u → Middle a b c t))
+-- b is in the middle of the whole tree just if it is in the middle of the part.
+pub record Narrowed (a b c : ℕ) (w : WholeTree) (s : Subtree) : Type 0 where
+  pub come : (t : Tree) → Holds (seen w.rows) w.count t → Sound t → Come s (λ u. (Middle a b c t → Middle a b c u) × (Middle a b c u → Middle a b c t))
 
-pub narrowed_start : (a b c : ℕ) (R : Cells) (n : ℕ) → Narrowed a b c R n 0
-narrowed_start a b c R n t h s = record { it = t; part = holds_part R n t h; sound = s; so = ((λ m. m), λ m. m) }
+pub narrowed_start : {w : WholeTree} {s : Subtree} (a b c : ℕ) → Whole w s → Narrowed a b c w s
+narrowed_start a b c i = record { come = λ t h o. record { it = t; part = root_is i t h; sound = o; so = ((λ m. m), λ m. m) } }
 
 -- All three are in one branch.
-pub narrowed_more : {a b c : ℕ} {R : Cells} {n i d e h : ℕ} → Narrowed a b c R n i → ((u : Tree) → Part R n i u → BranchWith i a u d) →
-    ((u : Tree) → Part R n i u → BranchWith i b u e) → ((u : Tree) → Part R n i u → BranchWith i c u h) → d ≡ e → e ≡ h → Narrowed a b c R n e
-narrowed_more {R = R} {n = n} w p q r m k t h s =
-    let o = w t h s in
-    let x = q o.it o.part in
-    let y = one_way_down R o.sound o.part.0 (p o.it o.part) x (r o.it o.part) m k in
-    record {
-      it = x.it;
-      part = with_part R n x o.part;
-      sound = with_sound o.sound x;
-      so = ((λ m. y.0 (o.so.0 m)), λ m. o.so.1 (y.1 m));
-    }
+pub narrowed_more : {a b c d e : ℕ} {w : WholeTree} {s x : Subtree} → Narrowed a b c w s → ((u : Tree) → Is s u → BranchWith s.root a u d) →
+    Within s x → ((u : Tree) → Is s u → BranchWith s.root b u x.root) → ((u : Tree) → Is s u → BranchWith s.root c u e) → d ≡ x.root → x.root ≡ e → Narrowed a b c w x
+narrowed_more {s = s} k p i q r m n = record {
+  come = λ t h o.
+      let j = k.come t h o in
+      let x = q j.it j.part in
+      let y = one_way_down (seen s.rows) j.sound j.part.0 (p j.it j.part) x (r j.it j.part) m n in
+      record {
+        it = x.it;
+        part = branch_is i x j.part;
+        sound = with_sound j.sound x;
+        so = ((λ m. y.0 (j.so.0 m)), λ m. j.so.1 (y.1 m));
+      };
+}
 
 -- What is told of that part is told of the orders that fit.
-pub decided : {a b c : ℕ} (v : View) {n i : ℕ} (r : Bool) → Narrowed a b c (seen v) n i → ((u : Tree) → Part (seen v) n i u → Sound u → Decides r (Middle a b c u)) →
-    (f : Finds) (t : Tree) → Shows v n f t → Decides r (Between f a b c)
-decided {a} {b} {c} v r w d f t s =
-    let k = w t s.holds s.sound in
+pub decided : {a b c : ℕ} {w : WholeTree} {s : Subtree} (r : Bool) → Narrowed a b c w s → ((u : Tree) → Is s u → Sound u → Decides r (Middle a b c u)) →
+    (f : Finds) (t : Tree) → ShownBy w f t → Decides r (Between f a b c)
+decided {a} {b} {c} r k d f t s =
+    let o = k.come t s.holds s.sound in
     let e = between_middle f t s.exact a b c in
-    let m = d k.it k.part k.sound in
-    ((λ z. e.1 (k.so.1 (m.0 z))), λ z. m.1 (k.so.0 (e.0 z)))
+    let m = d o.it o.part o.sound in
+    ((λ z. e.1 (o.so.1 (m.0 z))), λ z. m.1 (o.so.0 (e.0 z)))
 
 pub decides_not : {P : Type 0} → (P → ⊥) → Decides false P
 decides_not n = ((λ z. absurd (false≢true z)), λ p. absurd (n p))

@@ -5,7 +5,7 @@ use Rattle.finds.specs.Branches.{◌+++◌}
 use Rattle.finds.specs.Trees.{Tree, grave, any, row, Trees, none, more, len, graves, all_graves}
 use Rattle.finds.proofs.Branches.{plus_assoc}
 use Rattle.finds.proofs.Size.{some_nodes, nodes_plus}
-use Rattle.trees.specs.Cells.{nodes, all_nodes, Cells, Body, Ats, Part, Sound, Sounds}
+use Rattle.trees.specs.Cells.{nodes, all_nodes, kids, Cells, Body, Ats, Part, Sound, Sounds}
 use Rattle.trees.specs.Rows.{seen, Stands}
 use Rattle.trees.specs.declared.rows.View.{View}
 use Rattle.trees.proofs.Cells.{part_at, ats_cut, kids_ats, kids_nodes, len_nodes}
@@ -50,35 +50,17 @@ mutual
 abbrev pub Begins : Tree → ℕ → Type 0
 Begins t g = (rest : List ℕ) × (graves t ≡ g ∷ rest)
 
--- The first branch of a tree that is no grave is in the next cell, and the tree begins as it does.
-pub record Head (R : Cells) (n i : ℕ) (u : Tree) : Type 0 where
-  pub it : Tree
-  pub part : Part R n (i + 1) it
-  pub sound : Sound it
-  pub begins : (g : ℕ) → Begins it g → Begins u g
+-- A tree begins as its first branch does.
+pub begins_kids : (u t : Tree) (ts : Trees) → kids u ≡ more t ts → (g : ℕ) → Begins t g → Begins u g
+begins_kids (grave x) t ts e g h = absurd (let n = ap len e in omega arith)
+begins_kids (any us) t ts e g h = (h.0 ++ all_graves ts, ap all_graves e ∙ ap (λ (z : List ℕ). z ++ all_graves ts) h.1)
+begins_kids (row us) t ts e g h = (h.0 ++ all_graves ts, ap all_graves e ∙ ap (λ (z : List ℕ). z ++ all_graves ts) h.1)
 
-pub head : (R : Cells) (n i : ℕ) (u : Tree) → Part R n i u → Sound u → (R.sort i ≡ 0 → ⊥) → Head R n i u
-head R n i (grave g) p s k = absurd (k p.0.0)
-head R n i (any none) p s k = absurd (let h = s.good.0 in omega arith)
-head R n i (row none) p s k = absurd (let h = s.good.0 in omega arith)
-head R n i (any (more t ts)) p s k = record {
-  it = t;
-  part = subst (λ (z : ℕ). Part R n z t) (omega arith) (part_at R n i (any (more t ts)) none t ts p refl);
-  sound = sounds_first t ts (sound_kids (any (more t ts)) s);
-  begins = λ g h. (h.0 ++ all_graves ts, ap (λ (z : List ℕ). z ++ all_graves ts) h.1);
-}
-head R n i (row (more t ts)) p s k = record {
-  it = t;
-  part = subst (λ (z : ℕ). Part R n z t) (omega arith) (part_at R n i (row (more t ts)) none t ts p refl);
-  sound = sounds_first t ts (sound_kids (row (more t ts)) s);
-  begins = λ g h. (h.0 ++ all_graves ts, ap (λ (z : List ℕ). z ++ all_graves ts) h.1);
-}
-
--- Only the cell of a grave has the sort 0.
-pub grave_begins : (R : Cells) (i : ℕ) (u : Tree) → Body R i u → Sound u → R.sort i ≡ 0 → Begins u (grave_in R i)
+-- One without branches is a grave.
+pub grave_begins : (R : Cells) (i : ℕ) (u : Tree) → Body R i u → Sound u → kids u ≡ none → Begins u (grave_in R i)
 grave_begins R i (grave g) b s e = ([], ap (λ (z : ℕ). z ∷ []) (sym (grave_is R i g b s)))
-grave_begins R i (any ts) b s e = absurd (omega (arith, b.0))
-grave_begins R i (row ts) b s e = absurd (omega (arith, b.0))
+grave_begins R i (any ts) b s e = absurd (let n = ap len e in omega (arith, s.good.0))
+grave_begins R i (row ts) b s e = absurd (let n = ap len e in omega (arith, s.good.0))
 
 -- ---- the graves next to a branch
 
@@ -88,9 +70,6 @@ module _ (R : Cells) (n : ℕ) {i c : ℕ} {u : Tree} (p : Part R n i u) (s : So
 
   sides : Sounds w.before × Sounds (more w.it w.behind)
   sides = sounds_cut w.before (more w.it w.behind) (subst Sounds w.is (sound_kids u s))
-
-  pub branch_sound : Sound w.it
-  branch_sound = sounds_first w.it w.behind sides.1
 
   -- The cell before a branch that is not the first is the last grave before it.
   pub before_it : (k : ℕ) → suc k ≡ c → (c ≡ i + 1 → ⊥) → EndsWith (all_graves w.before) (grave_in R k)

@@ -1,6 +1,7 @@
 -- The nearest graves of a tree, from those of the branch that has b.
 use Rattle.std.proofs.Common.{◌≡◌, ℕ, ◌+◌, ◌<◌, ◌≤◌, true, eqb, ◌⊎◌, List, [], ◌∷◌, ◌++◌, length, Some, None, Option, sym, refl, ap, ◌∙◌, subst, inl, inr, ⊎_elim, append_assoc, arith, eq-eqb}
 use Rattle.std.proofs.lemmas.List.{length_push}
+use Rattle.std.specs.Option.{option_or}
 use Rattle.finds.specs.Branches.{◌+++◌}
 use Rattle.finds.specs.Counts.{count}
 use Rattle.finds.specs.Finds.{Finds}
@@ -33,11 +34,6 @@ pub record Nigh (t : Tree) (a b c : ℕ) : Type 0 where
 abbrev pub Right : Tree → ℕ → Option Neighbours → Type 0
 Right t b None = (x y : ℕ) → Middle x b y t → ⊥
 Right t b (Some p) = Nigh t p.before b p.behind
-
--- The first, if it tells of two graves, and else the second.
-abbrev pub or_else : Option Neighbours → Option Neighbours → Option Neighbours
-or_else (Some p) r = Some p
-or_else None r = r
 
 -- What is right for the tree is right for the orders that fit.
 pub right_told : (f : Finds) (t : Tree) → Exactly f t → (b : ℕ) (r : Option Neighbours) → Right t b r → Told f (graves t) b r
@@ -169,7 +165,7 @@ module _ (b : ℕ) (R : Cells) (i : ℕ) (u : Tree) (body : Body R i u) (once : 
       some g (more v ts) h = omega arith
 
   -- So it goes from the branch to the tree.
-  pub level : (r q : Option Neighbours) → Right t b r → Flanks (R.sort i) x y q → Right u b (or_else r q)
+  pub level : (r q : Option Neighbours) → Right t b r → Flanks (R.sort i) x y q → Right u b (option_or r q)
   level (Some p) q h k = inner p h
   level None (Some p) h k = outer p h k.0 k.1
   level None None h k = neither h k

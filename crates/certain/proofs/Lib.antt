@@ -1,3 +1,4 @@
+pub mod Sorts
 pub mod Places
 pub mod Middle
 pub mod Firm

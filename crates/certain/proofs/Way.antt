@@ -1,57 +1,64 @@
 -- The way down a tree to the grave b, and what is told of the nearest graves on it.
 use Rattle.std.proofs.Common.{◌≡◌, ℕ, Some, None, Option}
+use Rattle.std.specs.Option.{option_or}
 use Rattle.finds.specs.Finds.{Finds}
 use Rattle.finds.specs.Trees.{Tree, graves}
 use Rattle.finds.specs.Sets.{bit}
-use Rattle.trees.specs.Cells.{sets_of, kids, Cells, Holds, Part, Sound}
+use Rattle.trees.specs.Cells.{sets_of, kids, Holds, Sound}
 use Rattle.trees.specs.Rows.{seen}
+use Rattle.trees.specs.Subtrees.{Is, Within}
 use Rattle.trees.specs.Walks.{BranchWith}
-use Rattle.trees.specs.declared.rows.View.{View}
-use Rattle.trees.proofs.Cells.{holds_part}
+use Rattle.trees.specs.Wholes.{Within as Whole}
+use Rattle.trees.specs.declared.subtree.Subtree.{Subtree}
+use Rattle.trees.specs.declared.whole.WholeTree.{WholeTree}
+use Rattle.trees.proofs.Roots.{root_is}
 use Rattle.trees.proofs.Sets.{sound_kids}
-use Rattle.trees.proofs.Walking.{with_part, with_sound}
+use Rattle.trees.proofs.Stepping.{branch_is}
+use Rattle.trees.proofs.Walking.{with_sound}
 use Rattle.certain.specs.Near.{Told, BranchAt, Flanks}
-use Rattle.certain.specs.Shown.{Shows}
+use Rattle.certain.specs.Shown.{ShownBy}
 use Rattle.certain.specs.declared.neighbours.Neighbours.{Neighbours}
 use Rattle.certain.proofs.Descent.{Come, in_it, kids_in, gone}
-use Rattle.certain.proofs.Level.{Right, or_else, level, right_told}
+use Rattle.certain.proofs.Level.{Right, level, right_told}
 
--- What is right for the part in cell i, or else what is told so far, is right for the tree.
-abbrev pub SoFar : ℕ → Cells → ℕ → ℕ → Option Neighbours → Type 0
-SoFar b R n i best = (t : Tree) → Holds R n t → Sound t → Come R n i (λ u. (r : Option Neighbours) → Right u b r → Right t b (or_else r best))
+-- What is right for the part, or else what is told so far, is right for the whole tree.
+pub record SoFar (b : ℕ) (w : WholeTree) (s : Subtree) (best : Option Neighbours) : Type 0 where
+  pub come : (t : Tree) → Holds (seen w.rows) w.count t → Sound t → Come s (λ u. (r : Option Neighbours) → Right u b r → Right t b (option_or r best))
+
+pub so_far_start : {w : WholeTree} {s : Subtree} (b : ℕ) → Whole w s → SoFar b w s None
+so_far_start b i = record { come = λ t h o. record { it = t; part = root_is i t h; sound = o; so = same t } }
+  where
+    same : (t : Tree) (r : Option Neighbours) → Right t b r → Right t b (option_or r None)
+    same t (Some p) k = k
+    same t None k = k
 
 -- A branch that has a grave is a branch.
 abbrev pub branch_at : {i g c : ℕ} {u : Tree} → BranchWith i g u c → BranchAt i c u
 branch_at w = record { before = w.before; it = w.it; behind = w.behind; is = w.is; at = w.at }
 
-pub so_far_start : (b : ℕ) (R : Cells) (n : ℕ) → SoFar b R n 0 None
-so_far_start b R n t h s = record { it = t; part = holds_part R n t h; sound = s; so = same }
-  where
-    same : (r : Option Neighbours) → Right t b r → Right t b (or_else r None)
-    same (Some p) k = k
-    same None k = k
-
 -- One branch further down: what flanks it is told if nothing inside it is.
-pub so_far_more : {b : ℕ} {R : Cells} {n i c : ℕ} {best : Option Neighbours} (q : Option Neighbours) → SoFar b R n i best → ((u : Tree) → Part R n i u → BranchWith i b u c) →
-    ((u : Tree) → Part R n i u → Sound u → (w : BranchAt i c u) → Flanks (R.sort i) w.before w.behind q) → SoFar b R n c (or_else q best)
-so_far_more {b} {R} {n} {i} {c} {best} q f g k t h s =
-    let o = f t h s in
-    let w = g o.it o.part in
-    record {
-      it = w.it;
-      part = with_part R n w o.part;
-      sound = with_sound o.sound w;
-      so = λ r m. both r (o.so (or_else r q) (level b R i o.it o.part.0 (sound_kids o.it o.sound).once w.before w.it w.behind w.is (in_it w) r q m
-          (k o.it o.part o.sound (branch_at w))));
-    }
+pub so_far_more : {b : ℕ} {w : WholeTree} {s x : Subtree} {best : Option Neighbours} (q : Option Neighbours) → SoFar b w s best → Within s x → ((u : Tree) → Is s u → BranchWith s.root b u x.root) →
+    ((u : Tree) → Is s u → Sound u → (k : BranchAt s.root x.root u) → Flanks ((seen s.rows).sort s.root) k.before k.behind q) → SoFar b w x (option_or q best)
+so_far_more {b} {w} {s} {x} {best} q f i g k = record {
+  come = λ t h o.
+      let d = f.come t h o in
+      let v = g d.it d.part in
+      record {
+        it = v.it;
+        part = branch_is i v d.part;
+        sound = with_sound d.sound v;
+        so = λ r m. both t r (d.so (option_or r q) (level b (seen s.rows) s.root d.it d.part.0 (sound_kids d.it d.sound).once v.before v.it v.behind v.is (in_it v) r q m
+            (k d.it d.part d.sound (branch_at v))));
+      };
+}
   where
-    both : (r : Option Neighbours) → Right t b (or_else (or_else r q) best) → Right t b (or_else r (or_else q best))
-    both (Some p) m = m
-    both None m = m
+    both : (t : Tree) (r : Option Neighbours) → Right t b (option_or (option_or r q) best) → Right t b (option_or r (option_or q best))
+    both t (Some p) m = m
+    both t None m = m
 
 -- Where no branch has b, what is told so far is all.
-pub so_far_end : {b : ℕ} {v : View} {n i : ℕ} {best : Option Neighbours} → SoFar b (seen v) n i best → ((u : Tree) → Part (seen v) n i u → bit b (sets_of (kids u)) ≡ 0) →
-    (f : Finds) (t : Tree) → Shows v n f t → Told f (graves t) b best
-so_far_end {b} {best = best} w g f t s =
-    let o = w t s.holds s.sound in
+pub so_far_end : {b : ℕ} {w : WholeTree} {s : Subtree} {best : Option Neighbours} → SoFar b w s best → ((u : Tree) → Is s u → bit b (sets_of (kids u)) ≡ 0) →
+    (f : Finds) (t : Tree) → ShownBy w f t → Told f (graves t) b best
+so_far_end {b} {best = best} k g f t s =
+    let o = k.come t s.holds s.sound in
     right_told f t s.exact b best (o.so None (λ x y m. gone b (kids o.it) (g o.it o.part) (kids_in x b y o.it m).1))

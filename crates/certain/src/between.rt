@@ -2,14 +2,12 @@
 ghost use Rattle.std.specs.Prelude.{◌<◌, ◌⊎◌, Decides};
 ghost use Rattle.finds.specs.Finds.{Finds};
 ghost use Rattle.finds.specs.Trees.{Tree};
-ghost use Rattle.trees.specs.Checks.{TreeIn};
 ghost use Rattle.certain.specs.Certain.{Between};
 ghost use Rattle.certain.specs.Answering.{CertainAnswer};
-ghost use Rattle.certain.specs.Shown.{Shows};
+ghost use Rattle.certain.specs.Shown.{ShownBy};
 
-use trees::checked::is_tree;
-use trees::rows::View;
-use trees::walk::branch_with;
+use trees::rows::{Sort, View};
+use trees::whole::WholeTree;
 
 // Whether y is between x and z.
 fn is_amid(x: usize, y: usize, z: usize) -> bool
@@ -19,34 +17,29 @@ fn is_amid(x: usize, y: usize, z: usize) -> bool
 }
 
 // Whether b is certain to lie between a and c: they part at a row of the tree, and there b's branch is between theirs.
-pub fn is_certain(view: View, count: usize, a: u8, b: u8, c: u8) -> bool
-    requires { TreeIn view count }
-    ensures { (f : Finds) (t : Tree) → Shows view.entry count f t → Decides result (Between f a b c) }
+pub fn is_certain(tree: WholeTree, a: u8, b: u8, c: u8) -> bool
+    ensures { (f : Finds) (t : Tree) → ShownBy tree.entry f t → Decides result (Between f a b c) }
 {
-    let mut i = 0;
+    let mut part = tree.root();
     loop {
-        let Some(x) = branch_with(view, count, i, a) else {
+        let (Some(x), Some(y), Some(z)) = (
+            part.branch_with(a),
+            part.branch_with(b),
+            part.branch_with(c),
+        ) else {
             return false;
         };
-        let Some(y) = branch_with(view, count, i, b) else {
-            return false;
-        };
-        let Some(z) = branch_with(view, count, i, c) else {
-            return false;
-        };
-        if x != y || y != z {
-            return view.sorts[i] == 2 && is_amid(x, y, z);
+        if x.root != y.root || y.root != z.root {
+            return part.sort() == Sort::Row && is_amid(x.root, y.root, z.root);
         }
-        i = y;
+        part = y;
     }
 }
 
 // Whether b is certain to lie between a and c, for the finds whose orders the tree in the first `count` cells allows; None if the cells hold no tree.
-pub fn certain_answer(view: View, count: usize, a: u8, b: u8, c: u8) -> Option<bool>
-    ensures { CertainAnswer view.entry count a b c result }
+pub fn certain_answer(rows: View, count: usize, a: u8, b: u8, c: u8) -> Option<bool>
+    ensures { CertainAnswer rows.entry count a b c result }
 {
-    if !is_tree(view, count) {
-        return None;
-    }
-    Some(is_certain(view, count, a, b, c))
+    let tree = WholeTree::find(rows, count)?;
+    Some(is_certain(tree, a, b, c))
 }

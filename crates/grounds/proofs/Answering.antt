@@ -1,5 +1,5 @@
 -- From what the calls below promise to the whole promise.
-use Rattle.std.proofs.Common.{◌≡◌, ℕ, ◌-◌, ◌/◌, ◌<◌, ◌≤◌, List, length, get_or, take, drop, Some, sym, ap, ◌∙◌, subst, arith}
+use Rattle.std.proofs.Common.{◌≡◌, ℕ, ◌/◌, ◌<◌, ◌≤◌, List, length, get_or, take, drop, Some, sym, ap, ◌∙◌, subst, arith}
 use native.Mathlib.Decide.{dec_lt}
 use Rattle.finds.specs.Finds.{Finds}
 use Rattle.clashes.proofs.Chains.{closes_ground}
@@ -26,12 +26,9 @@ at_least x y h = go (dec_lt x y)
 pub room_for : (need : ℕ → ℕ) (n m x : ℕ) → n ≡ m → (x < need m → ⊥) → need n ≤ x
 room_for need n m x e h = subst (λ (k : ℕ). need k ≤ x) (sym e) (at_least x (need m) h)
 
--- The finds of the file are those of the sets that were written, of which the first many are handed on as a part.
-pub same_finds : (file : List ℕ) (t : Table) (many : ℕ) (ks : List ℕ) → TableOf file t → finds_in t.graves t.kinds.now ≡ finds_of_sets t.graves (take many ks) →
-    finds_of_sets t.graves (take (many - 0) (drop 0 ks)) ≡ finds_of file
-same_finds file t many ks of e =
-    let z : many - 0 ≡ many = omega arith in
-    ap (λ (k : ℕ). finds_of_sets t.graves (take k ks)) z ∙ sym e ∙ of.finds_are
+-- The finds of the file are those of the sets that were written.
+pub same_finds : (file : List ℕ) (t : Table) (many : ℕ) (ks : List ℕ) → TableOf file t → finds_in t.graves t.kinds.now ≡ finds_of_sets t.graves (take many ks) → finds_of_sets t.graves (take many ks) ≡ finds_of file
+same_finds file t many ks of e = sym e ∙ of.finds_are
 
 pub tree_of : (f g : Finds) (before after : Held) (root count : ℕ) → g ≡ f → Builds g before.rows after.rows (TreeBuilt root count) → Unsearched before after → ATree f root count before after
 tree_of f g before after root count e b u =

@@ -8,7 +8,7 @@ use Rattle.finds.specs.Sets.{bit, has}
 use Rattle.grounds.specs.Checking.{Decided}
 use Rattle.finds.specs.Finds.{Finds}
 use Rattle.clashes.specs.Rings.{Parts}
-use Rattle.grounds.specs.Neighbours.{Beyond, Clashing, parting, union}
+use Rattle.grounds.specs.Neighbours.{Beyond, Clashing, parting}
 use Rattle.tables.specs.Format.{finds_of_sets}
 use Rattle.grounds.proofs.KindSets.{Parting, in_sets, parts_in, parting_of}
 use Rattle.grounds.proofs.Clashing.{decided_no, decided_as}
@@ -80,16 +80,16 @@ module _ (a b c : ℕ) where
       go (suc i) l h = inr (i, omega arith, h)
 
   -- Sets that part a from b come into the union, and no others.
-  grown : (s : ℕ) (ks : List ℕ) → Decided (has (fold (λ s k. bit_or s k) s (parting a b ks)) c) ((has s c ≡ true) ⊎ Part ks)
+  abbrev Grown : ℕ → List ℕ → Type 0
+  Grown s ks = Decided (has (fold (λ s k. cond (has k a && not (has k b)) (bit_or s k) s) s ks) c) ((has s c ≡ true) ⊎ Part ks)
+
+  grown : (s : ℕ) (ks : List ℕ) → Grown s ks
   grown s [] = decided_as (has s c) inl (⊎_elim (λ e. e) (λ p. absurd (let l = p.1 in omega arith))) (decided_self (has s c))
   grown s (k ∷ ks) = go (has k a && not (has k b)) refl (grown (bit_or s k) ks) (grown s ks)
     where
-      Grown : ℕ → Type 0
-      Grown t = Decided (has (fold (λ s k. bit_or s k) t (parting a b ks)) c) ((has t c ≡ true) ⊎ Part ks)
-
-      go : (q : Bool) → (has k a && not (has k b)) ≡ q → Grown (bit_or s k) → Grown s →
-          Decided (has (fold (λ s k. bit_or s k) s (cond q (k ∷ parting a b ks) (parting a b ks))) c) ((has s c ≡ true) ⊎ Part (k ∷ ks))
-      go true e more same = decided_as (has (fold (λ s k. bit_or s k) (bit_or s k) (parting a b ks)) c)
+      go : (q : Bool) → (has k a && not (has k b)) ≡ q → Grown (bit_or s k) ks → Grown s ks →
+          Decided (has (fold (λ s k. cond (has k a && not (has k b)) (bit_or s k) s) (cond q (bit_or s k) s) ks) c) ((has s c ≡ true) ⊎ Part (k ∷ ks))
+      go true e more same = decided_as _
           (⊎_elim (λ h. ⊎_elim inl (λ g. inr (zero, omega arith, (both.0, not-true (has k b) both.1, g))) (or_cases (has s c) (has k c) (sym (has_or s k c) ∙ h))) (λ p. inr (later k ks p)))
           (⊎_elim (λ h. inl (has_or s k c ∙ or_left (has s c) (has k c) h))
           (λ p. ⊎_elim (λ g. inl (has_or s k c ∙ or_right (has s c) (has k c) g.2)) inr (first_of k ks p)))
@@ -97,13 +97,13 @@ module _ (a b c : ℕ) where
         where
           both : (has k a ≡ true) × (not (has k b) ≡ true)
           both = and_parts (has k a) (not (has k b)) e
-      go false e more same = decided_as (has (fold (λ s k. bit_or s k) s (parting a b ks)) c)
+      go false e more same = decided_as _
           (⊎_elim inl (λ p. inr (later k ks p)))
           (⊎_elim inl (λ p. ⊎_elim (λ g. absurd (true≢false (sym (and_from (has k a) (not (has k b)) g.0 (ap not g.1)) ∙ e))) inr (first_of k ks p)))
           same
 
 -- With a it has just the graves c for which (a,b) and (b,c) clash.
-pub beyond_is : (n : ℕ) (sets : List ℕ) (a b : ℕ) → a < n → b < n → Clashing (finds_of_sets n sets) a b (bit_or (2 ^ a) (union (parting a b sets)))
+pub beyond_is : (n : ℕ) (sets : List ℕ) (a b : ℕ) → a < n → b < n → Clashing (finds_of_sets n sets) a b (bit_or (2 ^ a) (parting a b sets))
 beyond_is n sets a b la lb c lc =
     subst (λ (x : Bool). Decided x (Beyond f a b c)) (sym (has_or (2 ^ a) all c))
     (decided_as (has (2 ^ a) c || has all c) (λ h. h) (λ h. h) (decided_or (has (2 ^ a) c) (has all c) (c ≡ a) (Parts f a b c) (has_one a c) parts))
@@ -112,7 +112,7 @@ beyond_is n sets a b la lb c lc =
     f = finds_of_sets n sets
 
     all : ℕ
-    all = union (parting a b sets)
+    all = parting a b sets
 
     parts : Decided (has all c) (Parts f a b c)
     parts = decided_as (has all c)

@@ -4,7 +4,6 @@ use Rattle.finds.specs.Finds.{Finds}
 use Rattle.finds.specs.Exactness.{SomeFits, NoneFits}
 use Rattle.clashes.specs.Rings.{Ring}
 use Rattle.grounds.specs.Checking.{pairs_of}
-use Rattle.grounds.specs.declared.notebook.Notebook.{Notebook}
 
 -- The first two bytes for each of m pairs are a ring, and all bytes behind them are as they were; so no order fits.
 pub record RingIn (f : Finds) (m : ℕ) (before bytes : List ℕ) : Type 0 where
@@ -23,9 +22,3 @@ Found f before bytes (Some m) = RingIn f m before bytes
 -- The cells for the pairs of n graves are cleared, and all cells beyond them are as they were.
 abbrev pub Cleared : ℕ → List ℕ → List ℕ → Type 0
 Cleared n before cells = cells ≡ replicate (n * n) 0 ++ drop (n * n) before
-
--- Each lent slice is still the same.
-pub record SameSlices (before after : Notebook) : Type 0 where
-  pub depths : after.depths.ghost_name ≡ before.depths.ghost_name
-  pub parents : after.parents.ghost_name ≡ before.parents.ghost_name
-  pub queue : after.queue.ghost_name ≡ before.queue.ghost_name

@@ -2,6 +2,7 @@ pub mod Checking
 pub mod Texts
 pub mod Notes
 pub mod Neighbours
+pub mod Notebook
 pub mod Searching
 pub mod Reading
 pub mod Finding

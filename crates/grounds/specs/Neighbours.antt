@@ -1,6 +1,6 @@
 -- The pairs that clash with a pair, found by sets of graves.
-use Rattle.std.specs.Prelude.{◌≡◌, ℕ, ◌*◌, ◌<◌, not, ◌&&◌, ◌⊎◌, List, bit_or, Some, None, Option}
-use Rattle.std.specs.List.{filter, fold}
+use Rattle.std.specs.Prelude.{◌≡◌, ℕ, ◌*◌, ◌<◌, cond, not, ◌&&◌, ◌⊎◌, List, bit_or, Some, None, Option}
+use Rattle.std.specs.List.{fold}
 use Rattle.finds.specs.Finds.{Finds, Pair}
 use Rattle.finds.specs.Sets.{has}
 use Rattle.clashes.specs.Colours.{Proper}
@@ -15,13 +15,9 @@ use Rattle.grounds.specs.declared.sets.Sets.{Sets}
 abbrev pub finds_in_sets : Sets → Finds
 finds_in_sets s = finds_of_sets s.graves s.kinds.now
 
--- The sets that have a and not b.
-abbrev pub parting : ℕ → ℕ → List ℕ → List ℕ
-parting a b sets = filter (λ k. has k a && not (has k b)) sets
-
--- The union of sets.
-abbrev pub union : List ℕ → ℕ
-union sets = fold (λ s k. bit_or s k) 0 sets
+-- The union of the sets that have a and not b.
+abbrev pub parting : ℕ → ℕ → List ℕ → ℕ
+parting a b sets = fold (λ s k. cond (has k a && not (has k b)) (bit_or s k) s) 0 sets
 
 -- The pairs (a,b) and (b,c) clash: c is a, or some kind lay in a and in c and not in b.
 abbrev pub Beyond : Finds → ℕ → ℕ → ℕ → Type 0

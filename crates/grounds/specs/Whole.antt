@@ -10,8 +10,11 @@ use Rattle.tables.specs.Format.{finds_of}
 use Rattle.tables.specs.Reading.{Refused, Taken}
 use Rattle.tables.specs.declared.refusal.Refusal.{Refusal}
 use Rattle.tables.specs.declared.room.Room.{Room}
-use Rattle.trees.specs.Cells.{Lent, lent, shortest}
+use Rattle.trees.specs.Cells.{Lent, shortest}
+use Rattle.trees.specs.Rows.{lent_rows}
+use Rattle.trees.specs.declared.rows.Rows.{Rows}
 use Rattle.grounds.specs.Finding.{RingIn, Cleared}
+use Rattle.grounds.specs.declared.notebook.Notebook.{Notebook}
 use Rattle.grounds.specs.declared.outcome.Outcome.{Outcome}
 use Rattle.grounds.specs.declared.outcome.Outcome.TheVariants.{Tree, Ground}
 
@@ -30,29 +33,29 @@ pub record Held : Type 0 where
   pub rows : Lent
   pub kinds : List ℕ
   pub depths : List ℕ
-  pub origins : List ℕ
+  pub parents : List ℕ
   pub queue : List ℕ
   pub ring : List ℕ
 
 -- The lent memory by its parts.
-abbrev pub memory_of : List ℕ → List ℕ → List ℕ → List ℕ → List ℕ → List ℕ → List ℕ → List ℕ → List ℕ → Held
-memory_of ps ss qs ms ks ds os us rs = record { rows = lent ps ss qs ms; kinds = ks; depths = ds; origins = os; queue = us; ring = rs }
+abbrev pub memory_of : Rows → List ℕ → Notebook → List ℕ → Held
+memory_of rows kinds notes ring = record { rows = lent_rows rows; kinds = kinds; depths = notes.depths.now; parents = notes.parents.now; queue = notes.queue.now; ring = ring }
 
 -- The sizes of the lent memory.
 abbrev pub room_of : Held → Room
-room_of m = record { branches = shortest m.rows; kinds = length m.kinds; colours = min (length m.depths) (min (length m.origins) (length m.queue)); rings = length m.ring }
+room_of m = record { branches = shortest m.rows; kinds = length m.kinds; colours = min (length m.depths) (min (length m.parents) (length m.queue)); rings = length m.ring }
 
 -- What was lent for colours and rings is as it was.
 pub record Unsearched (before now : Held) : Type 0 where
   pub depths : now.depths ≡ before.depths
-  pub origins : now.origins ≡ before.origins
+  pub parents : now.parents ≡ before.parents
   pub queue : now.queue ≡ before.queue
   pub ring : now.ring ≡ before.ring
 
 -- The cells for colours have been cleared for n graves.
 pub record Searched (n : ℕ) (before now : Held) : Type 0 where
   pub depths : Cleared n before.depths now.depths
-  pub origins : Cleared n before.origins now.origins
+  pub parents : Cleared n before.parents now.parents
   pub queue : Cleared n before.queue now.queue
 
 -- The rows hold the tree of exactly the orders that fit, and there is one.

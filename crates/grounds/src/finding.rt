@@ -1,6 +1,7 @@
 // The search for an odd ring of clashing pairs, in lent memory.
 ghost use Rattle.std.specs.Prelude.{◌≡◌, ◌*◌, ◌≤◌, length, replicate};
-ghost use Rattle.grounds.specs.Finding.{Found, Cleared, SameSlices};
+ghost use Rattle.grounds.specs.Finding.{Found, Cleared};
+ghost use Rattle.grounds.specs.Notebook.{SameNotebook};
 ghost use Rattle.grounds.specs.Neighbours.{finds_in_sets};
 ghost use Rattle.grounds.specs.Searching.{Blank, SameCells, Sized};
 ghost use Rattle.tables.specs.Format.{finds_of_sets};
@@ -24,7 +25,7 @@ impl Search<'_> {
 }
 
 // A ring, found in just a cell for each pair, which are cleared before and after.
-// The cells are no struct here: of a struct made of parts of slices nothing would be known afterwards.
+// They are passed slice by slice: of parts of slices that were put in a struct a proof would know nothing afterwards.
 fn find(
     sets: Sets,
     depths: &mut [u16],
@@ -62,7 +63,7 @@ pub fn find_ring(kinds: &[u64], graves: u8, notes: &mut Notebook, ring: &mut [u8
     ensures depths_clear { Cleared graves notes.old.depths.now notes.new.depths.now }
     ensures parents_clear { Cleared graves notes.old.parents.now notes.new.parents.now }
     ensures queue_clear { Cleared graves notes.old.queue.now notes.new.queue.now }
-    ensures same { SameSlices notes.old notes.new }
+    ensures same { SameNotebook notes.old notes.new }
 {
     let cells = graves as usize * graves as usize;
     let sets = Sets { graves, kinds };

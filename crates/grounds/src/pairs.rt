@@ -1,7 +1,7 @@
 // Pairs of graves.
 
 // The first grave is said to be earlier than the second.
-#[derive(Clone, Copy, PartialEq, Eq, Debug, Drop)]
+#[derive(Clone, Copy, Drop)]
 pub struct Pair {
     pub first: u8,
     pub second: u8,

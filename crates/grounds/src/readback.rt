@@ -11,7 +11,7 @@ ghost use Rattle.tables.specs.Room.{ring_for};
 use crate::search::{Fork, Search};
 
 // Where the two legs of a ring stand in the queue: the one below `left`, and the other from `right` on.
-#[derive(Clone, Copy, PartialEq, Eq, Debug, Drop)]
+#[derive(Clone, Copy, Drop)]
 struct Legs {
     left: usize,
     right: usize,
@@ -25,6 +25,7 @@ fn write(cells: &[u16], graves: u8, bytes: &mut [u8])
     ensures { pairs_of bytes.new ≡ map (numbered graves) cells.now }
 {
     let n = graves as u16;
+    // By places, since of bytes written through chunks a proof would know the length alone.
     for (i, cell) in cells.iter().enumerate() {
         bytes[2 * i] = (*cell / n) as u8;
         bytes[2 * i + 1] = (*cell % n) as u8;
@@ -66,6 +67,7 @@ impl Search<'_> {
     {
         let graves = self.sets.graves;
         let Legs { left, right } = self.climb(fork);
+        // Of a part taken through the field a proof would know the length alone.
         let queue = &mut *self.queue;
         let pairs = left + (queue.len() - right);
         write(&queue[0..left], graves, &mut ring[0..2 * left]);

@@ -5,7 +5,7 @@ ghost use Rattle.grounds.specs.Neighbours.{finds_in_sets};
 use crate::sets::Sets;
 
 // Two clashing pairs of one colour, by their cells.
-#[derive(Clone, Copy, PartialEq, Eq, Debug, Drop)]
+#[derive(Clone, Copy, Drop)]
 pub struct Fork {
     pub left: usize,
     pub right: usize,
@@ -88,6 +88,7 @@ impl Search<'_> {
                 continue;
             }
             self.enter(seed, seed);
+            // The queue stands in a lent slice, so its places are counted.
             while head < self.tail {
                 let work = sets.at_work(self.queue[head] as usize);
                 for place in 0..2 * n {

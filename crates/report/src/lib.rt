@@ -4,9 +4,8 @@
 ghost use Rattle.std.specs.Prelude.{◌≡◌, ℕ, ◌++◌, List, Some, IfOk, string_bytes, OnOk};
 ghost use Rattle.finds.specs.Finds.{Finds};
 ghost use Rattle.finds.specs.Trees.{Tree};
-ghost use Rattle.trees.specs.Checks.{TreeIn};
-ghost use Rattle.certain.specs.Shown.{Shows};
-ghost use Rattle.report.specs.Answer.{orders_line, near_line, pair_text, ring_answer, refusal_answer, verdict_answer, order_verdict_answer, ring_verdict_answer};
+ghost use Rattle.certain.specs.Shown.{ShownBy};
+ghost use Rattle.report.specs.Answer.{orders_line, pair_text, ring_answer, refusal_answer, verdict_answer, order_verdict_answer, ring_verdict_answer};
 ghost use Rattle.report.specs.Tells.{Tells, Lines};
 
 use certain::near::nearest;
@@ -18,27 +17,24 @@ use std::fmt::Display;
 use tables::refusal::Refusal;
 use tables::verdict::Torn;
 use text::text;
-use trees::rows::View;
-use trees::walk::graves_at;
+use trees::whole::WholeTree;
 
-// The answer with the tree in the rows, for so many graves, or want of memory.
-pub fn tree_text(heap: Global, view: View, count: usize, graves: u8) -> Result<String, AllocError>
-    requires { TreeIn view count }
-    ensures { IfOk result (λ s. (f : Finds) (t : Tree) → Shows view.entry count f t → f.graves ≡ graves → Tells f t (string_bytes s)) }
+// The answer with the tree, for so many graves, or want of memory.
+pub fn tree_text(heap: Global, tree: WholeTree, graves: u8) -> Result<String, AllocError>
+    ensures { IfOk result (λ s. (f : Finds) (t : Tree) → ShownBy tree.entry f t → f.graves ≡ graves → Tells f t (string_bytes s)) }
 {
-    let mut out = text(heap, view, count)?;
+    let mut out = text(heap, tree)?;
     out.push_str("\n")?;
-    write_orders(orders(view, count), &mut out)?;
-    write_nearest(view, count, graves, &mut out)?;
+    write_orders(orders(tree), &mut out)?;
+    write_nearest(tree, graves, &mut out)?;
     Ok(out)
 }
 
 // The same for the graves of the tree.
-pub fn whole_tree_text(heap: Global, view: View, count: usize) -> Result<String, AllocError>
-    requires { TreeIn view count }
-    ensures { IfOk result (λ s. (f : Finds) (t : Tree) → Shows view.entry count f t → Tells f t (string_bytes s)) }
+pub fn whole_tree_text(heap: Global, tree: WholeTree) -> Result<String, AllocError>
+    ensures { IfOk result (λ s. (f : Finds) (t : Tree) → ShownBy tree.entry f t → Tells f t (string_bytes s)) }
 {
-    tree_text(heap, view, count, graves_at(view, count, 0) as u8)
+    tree_text(heap, tree, tree.root().size() as u8)
 }
 
 // Writes the line on the number of orders.
@@ -47,31 +43,20 @@ fn write_orders(number: Option<u64>, out: &mut String) -> Result<(), AllocError>
 {
     match number {
         Some(n) => writeln!(out, "orders {n}"),
-        None => out.push_str("orders many\n"),
+        None => writeln!(out, "orders many"),
     }
 }
 
-// Writes the lines on the graves below this number.
-fn write_nearest(view: View, count: usize, graves: u8, out: &mut String) -> Result<(), AllocError>
-    requires { TreeIn view count }
-    ensures { OnOk result (Lines view.entry count graves (string_bytes out.old) (string_bytes out.new)) }
+// Writes the lines on the graves below this number: one on each that has two nearest.
+fn write_nearest(tree: WholeTree, graves: u8, out: &mut String) -> Result<(), AllocError>
+    ensures { OnOk result (Lines tree.entry graves (string_bytes out.old) (string_bytes out.new)) }
 {
     for b in 0..graves {
-        write_near(b, nearest(view, count, b), out)?;
+        if let Some(Neighbours { before, behind }) = nearest(tree, b) {
+            writeln!(out, "{b} between {before} and {behind}")?;
+        }
     }
     Ok(())
-}
-
-// Writes the line on the grave b, if it has two nearest.
-fn write_near(b: u8, found: Option<Neighbours>, out: &mut String) -> Result<(), AllocError>
-    ensures { OnOk result (string_bytes out.new ≡ string_bytes out.old ++ near_line b found) }
-{
-    match found {
-        Some(Neighbours { before, behind }) => {
-            writeln!(out, "{b} between {before} and {behind}")
-        }
-        None => Ok(()),
-    }
 }
 
 // The answer where no order fits, with the ring, two bytes for each pair, or want of memory. A byte left over stands for nothing.

@@ -7,8 +7,7 @@ use std::process::ExitCode;
 use std::{env, fs};
 
 fn run(rt: &HostRuntime) -> anyhow::Result<Ending> {
-    let mut args = env::args(rt)?;
-    let _ = args.next();
+    let mut args = env::args(rt)?.skip(1);
     let (Some(path), None) = (args.next(), args.next()) else {
         eprintln!(rt; "seriate: wrong words. Call it as: seriate TABLE")?;
         return Ok(Ending::TurnedAway);

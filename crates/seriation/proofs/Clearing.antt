@@ -3,20 +3,18 @@ use Rattle.std.proofs.Common.{◌≡◌, ℕ, ◌-◌, ◌<◌, ◌≤◌, List,
 use borrow.Rule.Slice.PartMut.{put_mid}
 use lib.ListN.{get_or-replicate, length-replicate}
 use Rattle.std.proofs.lemmas.List.{places}
-use Rattle.std.proofs.lemmas.Slice.{take-put_mid_below, drop-put_mid}
+use Rattle.std.proofs.lemmas.Slice.{drop-put_mid}
 
--- From a up to e the row is 0, and else as it was.
-pub record Blank (a e : ℕ) (xs zs : List ℕ) : Type 0 where
-  pub below : take a zs ≡ take a xs
-  pub empty : (x : ℕ) → a ≤ x → x < e → get_or zs x 0 ≡ 0
-  pub rest : drop e zs ≡ drop e xs
+module _ {A : Type 0} (nothing : A) (from to : ℕ) (xs : List A) where
+  len : from ≤ to → to ≤ length xs → length (take (to - from) (drop from xs)) ≡ to - from
+  len h l = simp (length-take, length-drop) (omega arith)
 
-pub blank : (a e : ℕ) (xs ys : List ℕ) → a ≤ e → e ≤ length xs → ys ≡ replicate (length (take (e - a) (drop a xs))) 0 → Blank a e xs (put_mid a (e - a) xs ys)
-blank a e xs ys h l s =
-    let m : length (take (e - a) (drop a xs)) ≡ e - a = simp (length-take, length-drop) (omega arith) in
-    let n : length ys ≡ e - a = ap length s ∙ length-replicate (length (take (e - a) (drop a xs))) 0 ∙ m in
-    record {
-      below = take-put_mid_below a (e - a) xs ys a (omega arith) (omega arith);
-      empty = λ x p q. let r : get_or ys (x - a) 0 ≡ 0 = ap (λ (l : List ℕ). get_or l (x - a) 0) s ∙ get_or-replicate (length (take (e - a) (drop a xs))) (x - a) 0 0 (omega arith) in grind (arith, places);
-      rest = drop-put_mid a (e - a) xs ys e (omega arith) (omega arith) n;
-    }
+  pub is_empty : (ys : List A) → from ≤ to → to ≤ length xs → ys ≡ replicate (length (take (to - from) (drop from xs))) nothing
+      → (x : ℕ) → from ≤ x → x < to → get_or (put_mid from (to - from) xs ys) x nothing ≡ nothing
+  is_empty ys h l s x p q =
+      let m = len h l in
+      let n : length ys ≡ to - from = ap length s ∙ length-replicate (length (take (to - from) (drop from xs))) nothing ∙ m in
+      let r : get_or ys (x - from) nothing ≡ nothing = ap (λ (l : List A). get_or l (x - from) nothing) s ∙ get_or-replicate (length (take (to - from) (drop from xs))) (x - from) nothing nothing (omega arith) in grind (arith, places)
+
+  pub rest_kept : (ys : List A) → from ≤ to → to ≤ length xs → ys ≡ replicate (length (take (to - from) (drop from xs))) nothing → drop to (put_mid from (to - from) xs ys) ≡ drop to xs
+  rest_kept ys h l s = drop-put_mid from (to - from) xs ys to (omega arith) (omega arith) (ap length s ∙ length-replicate (length (take (to - from) (drop from xs))) nothing ∙ len h l)

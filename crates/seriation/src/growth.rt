@@ -46,7 +46,8 @@ fn clear(rows: &mut Rows, count: usize, end: usize)
 
 // Writes nothing into the cells of a row from `from` on, up to `to`.
 fn empty<T: Copy>(row: &mut [T], from: usize, to: usize, nothing: T)
-    requires { (from ≤ to) × (to ≤ length row.old) }
+    requires within { (from ≤ to) × (to ≤ length row.old) }
+    requires copied { T.is_infallible nothing × ((y : T) → T.is_clone nothing y → y ≡ nothing) }
     ensures below { take from row.new ≡ take from row.old }
     ensures empty { (x : ℕ) → from ≤ x → x < to → slice_index_or row.new x nothing ≡ nothing }
     ensures rest { drop to row.new ≡ drop to row.old }

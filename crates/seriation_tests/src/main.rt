@@ -1,112 +1,41 @@
 // Runs tables from stdin, one to a line as hexadecimal digits, and compares the tree with a search through all orders, kind by kind.
 // For each number of first kinds it prints how many orders the tree allows, once it is seen that these are just the orders that fit;
 // or `none K` where no order fits and K is the kind at which this was found.
+// crates/cases runs these tables too, and prints the answers by itself: no library can share that, since no contract speaks of what is printed.
 #![tactic(auto)]
 
+use anyhow::bail;
+use itertools::Itertools;
 use seriation::building::build;
 use seriation::built::Built;
 use std::alloc::{AllocError, Global};
 use tables::orders::verify_order;
-use tables::verdict::Verdict;
 use trees::allowed::allows;
 use trees::rows::View;
 
-// The value of a hexadecimal digit.
-fn nibble(digit: u8) -> Option<u8> {
-    match digit {
-        b'0'..=b'9' => Some(digit - b'0'),
-        b'a'..=b'f' => Some(digit - b'a' + 10),
-        _ => None,
-    }
+// Whether the order fits the table.
+fn fits(file: &[u8], order: &[u8]) -> bool {
+    verify_order(file, order) == Ok(None)
 }
 
-// The bytes that two hexadecimal digits each stand for.
-fn bytes_of(heap: Global, text: &str) -> Result<Vec<u8>, AllocError> {
-    let mut bytes = Vec::new(heap);
-    let digits = text.as_bytes();
-    for i in 0..digits.len() / 2 {
-        if let (Some(high), Some(low)) = (nibble(digits[2 * i]), nibble(digits[2 * i + 1])) {
-            bytes.push((high & 15) * 16 + (low & 15))?;
-        }
-    }
-    Ok(bytes)
-}
-
-// The last place at which the order rises, if any.
-fn last_rise(order: &[u8]) -> Option<usize> {
-    for i in (1..order.len()).rev() {
-        if order[i - 1] < order[i] {
-            return Some(i - 1);
-        }
-    }
-    None
-}
-
-// The last place behind `at` with a larger grave, if any.
-fn last_above(order: &[u8], at: usize) -> Option<usize> {
-    for j in (0..order.len()).rev() {
-        if at < j && order[at] < order[j] {
-            return Some(j);
-        }
-    }
-    None
-}
-
-// Turns the order into the next one by places; false if it was the last.
-fn next_order(order: &mut [u8]) -> bool {
-    let Some(rise) = last_rise(order) else {
-        return false;
-    };
-    let Some(other) = last_above(order, rise) else {
-        return false;
-    };
-    if rise < order.len() && other < order.len() {
-        order.swap(rise, other);
-        order[rise + 1..].reverse();
-    }
-    true
-}
-
-// How many orders the tree allows, if these are just the orders that fit the table.
-fn compare(view: View, count: usize, file: &[u8], order: &mut [u8]) -> Option<u32> {
-    let mut found = 0u32;
-    for _ in 0..5040 {
-        let fits = matches!(verify_order(file, order), Ok(Verdict::Fitting));
-        if allows(view, count, order) != Some(fits) {
-            return None;
-        }
-        if fits {
-            found = found.saturating_add(1);
-        }
-        if !next_order(order) {
-            return Some(found);
-        }
-    }
-    None
-}
-
-// Whether some order fits the table.
-fn some_fits(file: &[u8], order: &mut [u8]) -> bool {
-    for _ in 0..5040 {
-        if matches!(verify_order(file, order), Ok(Verdict::Fitting)) {
-            return true;
-        }
-        if !next_order(order) {
-            return false;
-        }
-    }
-    true
+// How many of the orders the tree allows, if these are just those that fit the table.
+fn compare(view: View, count: usize, file: &[u8], orders: &[Vec<u8>]) -> Option<usize> {
+    orders
+        .iter()
+        .all(|order| allows(view, count, order.as_slice()) == Some(fits(file, order.as_slice())))
+        .then(|| orders
+            .iter()
+            .filter(|order| fits(file, order.as_slice()))
+            .count())
 }
 
 // The answer for the table as a word.
-fn print_table(rt: &HostRuntime, file: &[u8]) -> anyhow::Result<()> {
+fn print_table(rt: &HostRuntime, file: &[u8], orders: &[Vec<u8>]) -> anyhow::Result<()> {
     let mut parents = [0u8; 13];
     let mut sorts = [0u8; 13];
     let mut places = [0u8; 13];
     let mut sets = [0u64; 13];
     let mut kinds = [0u64; 128];
-    let mut order = [0u8, 1, 2, 3, 4, 5, 6];
-    let graves = file.first().copied().unwrap_or(0).min(7) as usize;
     match build(
         file,
         &mut parents,
@@ -122,44 +51,51 @@ fn print_table(rt: &HostRuntime, file: &[u8]) -> anyhow::Result<()> {
                 places: &places,
                 sets: &sets,
             };
-            match compare(view, count, file, &mut order[0..graves]) {
+            match compare(view, count, file, orders) {
                 Some(found) => print!(rt; " {found}")?,
                 None => print!(rt; " differs")?,
             }
         }
-        Ok(Built::NoOrder { kind }) => {
-            if some_fits(file, &mut order[0..graves]) {
-                print!(rt; " differs")?;
-            } else {
-                print!(rt; " none {kind}")?;
-            }
+        Ok(Built::NoOrder { .. }) if orders.iter().any(|order| fits(file, order.as_slice())) => {
+            print!(rt; " differs")?;
         }
+        Ok(Built::NoOrder { kind }) => print!(rt; " none {kind}")?,
         Err(_) => print!(rt; " refused")?,
     }
     Ok(())
 }
 
-fn run(rt: &HostRuntime) -> anyhow::Result<()> {
-    for line in rt.lines(rt.alloc()) {
-        let line = line?;
-        let mut file = bytes_of(rt.alloc(), line.as_str())?;
-        print!(rt; "{line}:")?;
-        for j in 0..=file.get(1).copied().unwrap_or(0) {
-            let end = 2 + 8 * j as usize;
-            let mut front = Vec::new(rt.alloc());
-            front.extend_from_slice(file.as_slice())?;
-            front.truncate(end);
-            if front.len() == end && end > 1 {
-                front[1] = j;
-            }
-            print_table(rt, front.as_slice())?;
-        }
-        file.clear();
-        println!(rt; "")?;
+// The file with only its first kinds.
+fn first_kinds(heap: Global, file: &[u8], kinds: u8) -> Result<Vec<u8>, AllocError> {
+    let mut front = file.to_vec(heap)?;
+    front.truncate(2 + 8 * kinds as usize);
+    if let [_, number, ..] = front.as_mut_slice() {
+        *number = kinds;
     }
+    Ok(front)
+}
+
+// The answers for each number of first kinds.
+fn print_kinds(rt: &HostRuntime, file: &[u8]) -> anyhow::Result<()> {
+    let heap = rt.alloc();
+    let [graves @ 0..=7, kinds, ..] = file else {
+        bail!("a file that is no table, or one of more graves than are gone through");
+    };
+    let orders = (0..*graves).permutations(heap, *graves as usize)?;
+    let orders: Vec<Vec<u8>> = orders.try_collect(heap)?;
+    for j in 0..=*kinds {
+        let front = first_kinds(heap, file, j)?;
+        print_table(rt, front.as_slice(), orders.as_slice())?;
+    }
+    println!(rt; "")?;
     Ok(())
 }
 
 fn main(rt: HostRuntime) -> anyhow::Result<()> {
-    run(&rt)
+    for line in rt.lines(rt.alloc()) {
+        let line = line?;
+        print!(rt; "{line}:")?;
+        print_kinds(&rt, hex::decode(rt.alloc(), line.as_str())?.as_slice())?;
+    }
+    Ok(())
 }

@@ -31,7 +31,7 @@ fn first_place(order: &[u8], set: u64) -> Option<usize>
     order.iter().position(|grave| contains(set, *grave))
 }
 
-// The first place with a grave that lacks the kind, if any.
+// The first place with a grave that lacks the kind, if any. (Not one function with `first_place`: a flag or a closure for the test would be no plainer.)
 fn first_lacking(order: &[u8], set: u64) -> Option<usize>
     ensures { First (λ p. has set (slice_index order.now p) ≡ false) (length order.now) result }
 {

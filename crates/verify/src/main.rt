@@ -4,6 +4,7 @@
 use answers::printed::Ending;
 use answers::verifying::{order_text, ring_text};
 use std::process::ExitCode;
+use std::str::FromStr;
 use std::{env, fs, io};
 
 // What is to be checked.
@@ -11,6 +12,22 @@ use std::{env, fs, io};
 enum Question {
     Order,
     Ring,
+}
+
+// A word that asks for neither.
+#[derive(Drop)]
+struct UnknownWord;
+
+impl FromStr for Question {
+    type Err = UnknownWord;
+
+    fn from_str(word: &str) -> Result<Question, UnknownWord> {
+        match word {
+            "order" => Ok(Question::Order),
+            "ring" => Ok(Question::Ring),
+            _ => Err(UnknownWord),
+        }
+    }
 }
 
 // The words of a call.
@@ -21,34 +38,20 @@ struct Call {
     file: String,
 }
 
-// What the word asks for, if it is one of the two.
-fn question_of(word: &str) -> Option<Question> {
-    match word {
-        "order" => Some(Question::Order),
-        "ring" => Some(Question::Ring),
-        _ => None,
-    }
-}
-
 // The words of the call, if they are as they should be.
 fn words(rt: &HostRuntime) -> io::Result<Option<Call>> {
-    let mut args = env::args(rt)?;
-    let _ = args.next();
-    let Some(table) = args.next() else {
+    let mut args = env::args(rt)?.skip(1);
+    let (Some(table), Some(word), Some(file), None) = (
+        args.next(),
+        args.next(),
+        args.next(),
+        args.next(),
+    ) else {
         return Ok(None);
     };
-    let Some(word) = args.next() else {
+    let Ok(question) = word.as_str().parse() else {
         return Ok(None);
     };
-    let Some(file) = args.next() else {
-        return Ok(None);
-    };
-    let Some(question) = question_of(word.as_str()) else {
-        return Ok(None);
-    };
-    if args.next().is_some() {
-        return Ok(None);
-    }
     Ok(Some(Call {
         table,
         question,

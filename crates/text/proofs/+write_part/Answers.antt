@@ -1,38 +1,62 @@
-use Rattle.std.proofs.Common.{string_bytes, sym, ap, ◌∙◌, append-nil, arith}
-use Rattle.std.proofs.lemmas.Result.{IfOk-weaker}
+use Rattle.std.proofs.Common.{◌≡◌, ℕ, ◌+◌, ◌⊎◌, List, ◌++◌, cond, decimal, is_ok, Ok, Err, Result, OnOk, string_bytes, sym, ap, ◌∙◌, subst, inl, inr, append-nil, arith}
+use Rattle.std.proofs.lemmas.Result.{on_ok_weaker}
+use lib.Count.{count_trailing_zeros}
+use lib.Utf8.{encode}
+use Rattle.finds.specs.Trees.{Tree, none, more}
+use Rattle.finds.proofs.Branches.{len_plus}
+use Rattle.trees.specs.Cells.{kids, Cells, Body}
 use Rattle.trees.specs.Rows.{seen}
-use Rattle.trees.proofs.Walking.{walk_start, walk_next, walk_more, walk_end, walk_stands, next_sound}
-use Rattle.text.proofs.Showing.{first_written, next_written, grave_written, whole_written}
+use Rattle.trees.proofs.Finding.{had_standing}
+use Rattle.trees.proofs.Stepping.{going_start, going_within, going_next, going_more, going_end, branch_sound}
+use Rattle.text.specs.Show.{show, shows}
+use Rattle.text.proofs.Showing.{first_written, next_written, grave_shown, any_shown, row_shown, around}
 use Rattle.text.proofs.+write_part.Goals as goal
-use Rattle.text.proofs.+write_part.Goals.{then-at-i+in_ok-write_byte-2, else-at-i}
+use Rattle.text.proofs.+write_part.Goals.{in-Any, in-Row, then-k-gt0+in_ok-push-2, else-k-gt0}
 
-pub returns-then-view-i : goal.returns-then-view-i
-returns-then-view-i m c = IfOk-weaker c.write_grave.result _ _ (λ x e t p s. grave_written (seen c.args.view) c.args.i t _ _ p.0 s c.if-view-i.true e) c.write_grave.ensures
+pub returns-in-Grave : goal.returns-in-Grave
+returns-in-Grave m c = on_ok_weaker c.write.result (λ e u p s.
+    e ∙ ap (λ (z : List ℕ). string_bytes c.args.out.now ++ z)
+    (ap (λ (z : ℕ). decimal (count_trailing_zeros 64 z)) c.graves.ensures ∙ grave_shown (seen c.args.part.rows) c.args.part.root u p.0 s (sym c.in-Grave.ensures))) c.write.ensures.bytes
 
-pub loop-at-init : goal.loop-at-init
-loop-at-init m c = λ t p. walk_start c.args.i t _ (λ s. sym (append-nil _))
+pub loop-k-init : goal.loop-k-init
+loop-k-init m c = going_start _ c.branches.ensures (ap (λ x. x.iter) c.into_iter-k-iterator.ensures.into_iter_gives ∙ c.enumerate-k-items.ensures.source)
+    (λ u p. (ap (λ x. x.count) c.into_iter-k-iterator.ensures.into_iter_gives ∙ c.enumerate-k-items.ensures.count, λ s. sym (append-nil _)))
 
 pub write_part-requires : goal.write_part-requires
 write_part-requires m c =
-    let w = c.loop-at.invariant c.requires.tree c.requires.part in
-    let s = walk_stands c.requires c.loop-at.invariant c.next_after-end.ensures.end c.loop-at-test.true in
-    (omega (arith, c.decreases, w.at, s.below), s)
+    let s = had_standing c.args.part.stands in
+    let x = going_next c.loop-k.invariant c.in-Some.ensures.steps.0 s.tree s.part in
+    let w = going_within c.loop-k.invariant c.in-Some.ensures.steps.0 in
+    (omega (arith, c.decreases, x.at, w.count, (had_standing c.in-Some.branch.stands).below), tt)
 
-pub next_after-at-requires : goal.next_after-at-requires
-next_after-at-requires m c = walk_stands c.requires c.loop-at.invariant c.next_after-end.ensures.end c.loop-at-test.true
+pub loop-k-preserved : goal.loop-k-preserved
+unfolding encode
+loop-k-preserved m c = going_more _ c.loop-k.invariant c.in-Some.ensures.steps.0 (λ u p x. (
+  c.in-Some.ensures.steps.2 ∙ ap (λ (k : ℕ). k + 1) x.so.0 ∙ sym (len_plus x.done (more x.it none)),
+  λ s.
+      let e = c.in_ok-write_part.ensures x.it x.part (branch_sound s x) in
+      let k = c.in-Some.ensures.steps.1 ∙ x.so.0 in
+      elim c.if-k-gt0.branch [
+        | then-k-gt0+in_ok-push-2 w ↦ next_written x.done x.it _ (string_bytes c.loop-k.out) (string_bytes c.if-k-gt0.out) _ (omega (arith, w.if-k-gt0.true)) (x.so.1 s) (ap string_bytes w.out-is ∙ w.in_ok-push-2.ensures.bytes) e
+        | else-k-gt0 w ↦ first_written x.done x.it _ (string_bytes c.if-k-gt0.out) _ (omega (arith, w.if-k-gt0.false)) (ap string_bytes w.out-is ∙ x.so.1 s) e
+      ],
+))
 
-pub loop-at-preserved : goal.loop-at-preserved
-loop-at-preserved m c = λ t p.
-    let x = walk_next p (c.loop-at.invariant t p) (c.next_after-end.ensures.end t p) c.loop-at-test.true in
-    walk_more _ c.next_after-at.result x (c.next_after-at.ensures.end x.it x.part) (λ s.
-    let e = c.in_ok-write_part.ensures x.it x.part (next_sound s x) in
-    elim c.if-at-i.branch [
-      | then-at-i+in_ok-write_byte-2 w ↦
-          next_written c.args.i c.loop-at.at x.done x.it (string_bytes c.write_byte.new.out) (string_bytes c.loop-at.out) (string_bytes c.if-at-i.out) (string_bytes c.write_part.new.out) x.at w.if-at-i.true (x.so s) (ap string_bytes w.out-is ∙ w.in_ok-write_byte-2.ensures) e
-      | else-at-i w ↦ first_written c.args.i c.loop-at.at x.done x.it (string_bytes c.write_byte.new.out) (string_bytes c.if-at-i.out) (string_bytes c.write_part.new.out) x.at w.if-at-i.false (ap string_bytes w.out-is ∙ x.so s) e
-    ])
+-- What is pushed is written if there is memory.
+pushed : {X Y : Type 0} (r : Result X Y) (a b c : List ℕ) → c ≡ cond (is_ok r) b a → OnOk r (c ≡ b)
+pushed (Ok x) a b c e = e
+pushed (Err y) a b c e = tt
+
+-- The brackets are those of the sort.
+brackets : (R : Cells) (i : ℕ) (t : Tree) {o : ℕ × ℕ} → Body R i t → ((R.sort i ≡ 1) × (o ≡ (123, 125))) ⊎ ((R.sort i ≡ 2) × (o ≡ (91, 93))) → encode o.0 ++ (shows (kids t) ++ encode o.1) ≡ show t
+unfolding encode
+brackets R i t {o} h (inl (e, k)) = subst (λ (z : ℕ × ℕ). encode z.0 ++ (shows (kids t) ++ encode z.1) ≡ show t) (sym k) (any_shown R i t h e)
+brackets R i t {o} h (inr (e, k)) = subst (λ (z : ℕ × ℕ). encode z.0 ++ (shows (kids t) ++ encode z.1) ≡ show t) (sym k) (row_shown R i t h e)
 
 pub returns : goal.returns
-returns m c = IfOk-weaker c.write_byte-2.result _ _ (λ x e t p s.
-    whole_written (seen c.args.view) c.args.i t _ _ _ _ _ _ p.0 c.if-view-i.false c.brackets-around.ensures.0 c.brackets-around.ensures.1
-    c.in_ok-write_byte.ensures (walk_end (c.loop-at.invariant t p) (c.next_after-end.ensures.end t p) c.loop-at-test.false s) e) c.write_byte-2.ensures
+returns m c = on_ok_weaker c.push-2.result (λ e u p s.
+    around (string_bytes c.args.out.now) _ _ _ c.in_ok-push.ensures.bytes ((going_end c.loop-k.invariant c.in-None.ensures.steps.0.0 u p).1 s) e
+    (brackets (seen c.args.part.rows) c.args.part.root u p.0 (elim c.match-sort.branch [
+      | in-Any w ↦ inl (sym w.in-Any.ensures, w.open-is)
+      | in-Row w ↦ inr (sym w.in-Row.ensures, w.open-is)
+    ]))) (pushed c.push-2.result _ _ _ c.push-2.ensures.bytes)

@@ -1,7 +1,8 @@
-use Rattle.std.proofs.Common.{◌≡◌, ℕ, ◌+◌, ◌<◌, ◌≢◌, List, length, get_or, set, Some, None, Option, sym, ◌∙◌, subst, inl, inr, arith, below_more, MatchOption}
+use Rattle.std.proofs.Common.{ℕ, ◌+◌, ◌<◌, ◌≢◌, List, length, get_or, set, Some, None, Option, refl, ◌∙◌, subst, sym, inl, inr, arith, below_more}
 use Rattle.std.proofs.lemmas.List.{get_or-set_same, get_or-set_other, drop-set-lt}
+use Rattle.std.specs.Option.{unwrap_or}
 use Rattle.finds.specs.Finds.{Finds}
-use Rattle.certain.specs.Certain.{Nearest}
+use Rattle.finds.specs.Trees.{graves}
 use Rattle.certain.specs.Near.{Told, Written}
 use Rattle.certain.specs.declared.neighbours.Neighbours.{Neighbours}
 use Rattle.certain.proofs.near.all_nearest.Goals as goal
@@ -14,14 +15,19 @@ write_more P xs ys i v w k l below here =
     (λ b h. let ne : b ≢ i = omega arith in rw (get_or-set_other xs i b v 0 ne, get_or-set_other ys i b w 0 ne) (below b h))
     (rw (get_or-set_same xs i v 0 k, get_or-set_same ys i w 0 l) here)
 
-told_written : (f : Finds) (l : List ℕ) (b : ℕ) (r : Option Neighbours) (p : Neighbours) → Told f l b r → MatchOption r ((p.before ≡ 255) × (p.behind ≡ 255)) (λ q. p ≡ q) → Written f l b p.before p.behind
-told_written f l b None p h k = inl (k.0, k.1, h)
-told_written f l b (Some q) p h k = inr (subst (λ (z : Neighbours). Nearest f l z.before b z.behind) (sym k) h)
+-- Neither of the two.
+abbrev no_two : Neighbours
+no_two = record { before = 255; behind = 255 }
+
+told_written : (f : Finds) (l : List ℕ) (b : ℕ) (r : Option Neighbours) → Told f l b r → Written f l b (unwrap_or r no_two).before (unwrap_or r no_two).behind
+told_written f l b None h = inl (refl, refl, h)
+told_written f l b (Some p) h = inr h
 
 pub loop-b-preserved : goal.loop-b-preserved
 loop-b-preserved c = (
   (λ f t s. write_more (Written f _) c.loop-b.before c.loop-b.behind c.loop-b.b _ _ (omega (arith, c.loop-b.auto.before, c.requires.room.0)) (omega (arith, c.loop-b.auto.behind, c.requires.room.1))
-      (c.loop-b.invariant.0 f t s) (told_written f _ c.loop-b.b c.nearest.result c.written-found.result (c.nearest.ensures f t s) c.written-found.ensures)),
+      (c.loop-b.invariant.0 f t s)
+      (subst (λ (p : Neighbours). Written f (graves t) c.loop-b.b p.before p.behind) (sym c.unwrap_or-found.ensures) (told_written f (graves t) c.loop-b.b c.nearest.result (c.nearest.ensures f t s)))),
   drop-set-lt c.args.n c.loop-b.before c.loop-b.b _ (omega arith) ∙ c.loop-b.invariant.1,
   drop-set-lt c.args.n c.loop-b.behind c.loop-b.b _ (omega arith) ∙ c.loop-b.invariant.2,
 )

@@ -1,14 +1,14 @@
 use Rattle.std.proofs.Common.{ℕ, ◌-◌}
 use Rattle.finds.specs.Trees.{Tree}
-use Rattle.trees.specs.Cells.{Part, Sound}
-use Rattle.trees.specs.Rows.{seen, Stands}
+use Rattle.trees.specs.Cells.{Sound}
+use Rattle.trees.specs.Subtrees.{Is}
 use Rattle.certain.proofs.Descent.{Come}
 use Rattle.certain.proofs.Ends.{Begins}
 use Rattle.certain.proofs.near.first_grave.Given as goal
 
--- The part begins as what stands in the cell that is reached.
-abbrev pub invariant-loop-at : goal.invariant-loop-at
-invariant-loop-at l = Stands l.view l.count l.at × ((t : Tree) → Part (seen l.view) l.count l.i t → Sound t → Come (seen l.view) l.count l.at (λ u. (g : ℕ) → Begins u g → Begins t g))
+-- The part begins as the one that is reached.
+abbrev pub invariant-loop-branch : goal.invariant-loop-branch
+invariant-loop-branch l = (t : Tree) → Is l.part t → Sound t → Come l.first (λ u. (g : ℕ) → Begins u g → Begins t g)
 
-abbrev pub decreases-loop-at : goal.decreases-loop-at
-decreases-loop-at l = l.count - l.at
+abbrev pub decreases-loop-branch : goal.decreases-loop-branch
+decreases-loop-branch l = l.first.count - l.first.root

@@ -1,47 +1,60 @@
-use Rattle.std.proofs.Common.{ℕ, ◌-◌, List, ◌++◌, ap, ◌∙◌, arith}
-use Rattle.finds.specs.Trees.{all_graves}
+use Rattle.std.proofs.Common.{◌≡◌, ℕ, ◌+◌, ◌-◌, ◌<◌, List, ◌++◌, length, sym, ap, ◌∙◌, arith}
+use Rattle.finds.specs.Trees.{Tree, all_graves}
+use Rattle.trees.specs.Cells.{nodes, Sound}
 use Rattle.trees.specs.Rows.{seen}
-use Rattle.certain.proofs.Ends.{stands_at, branch_part, branch_sound, before_it, behind_it, none_before_it, none_behind_it}
+use Rattle.trees.specs.Subtrees.{Is, Within}
+use Rattle.trees.specs.declared.subtree.Subtree.{Subtree}
+use Rattle.trees.proofs.Finding.{had_standing}
+use Rattle.trees.proofs.Stepping.{beside}
+use Rattle.certain.specs.Near.{BranchAt}
+use Rattle.certain.proofs.Ends.{stands_at, branch_part, before_it, behind_it, none_before_it, none_behind_it}
+use Rattle.certain.proofs.Sorts.{is_row_ne, not_row_ne}
 use Rattle.certain.proofs.near.flanks.Goals as goal
-use Rattle.certain.proofs.near.flanks.Goals.{then-view-i-via-then-view-i, then-view-i-via-else-view-i+then-at-i}
+use Rattle.certain.proofs.near.flanks.Goals.{then-ne-via-then-ne, then-ne-via-else-ne+then-branch-part, then-ne-via-else-ne+else-branch-part+then-end}
 
-pub returns-then-view-i : goal.returns-then-view-i
-returns-then-view-i c = λ u p s w e x y.
-    elim c.then-view-i.branch [
-      | then-view-i-via-then-view-i k ↦ k.if-view-i.true e
-      | then-view-i-via-else-view-i+then-at-i k ↦ none_before_it (seen c.args.view) c.args.count p s w k.if-at-i.true x
+-- Where the branch ends.
+ended : {s b : Subtree} {u : Tree} {e : ℕ} → Within s b → Is s u → Sound u → (w : BranchAt s.root b.root u) → ((t : Tree) → Is b t → e ≡ b.root + nodes t) → e ≡ b.root + nodes w.it
+ended {s} i p h w f = f w.it (beside w.it i (branch_part (seen s.rows) s.count p h w))
+
+pub returns-then-ne : goal.returns-then-ne
+returns-then-ne c = λ u p s w e x y.
+    let R = seen c.args.part.rows in
+    elim c.then-ne.branch [
+      | then-ne-via-then-ne k ↦ not_row_ne c.sort.result k.if-ne.ensures (c.sort.ensures ∙ e)
+      | then-ne-via-else-ne+then-branch-part k ↦ none_before_it R c.args.part.count p s w k.if-branch-part.true x
+      | then-ne-via-else-ne+else-branch-part+then-end k ↦ none_behind_it R c.args.part.count p s w _ _ (ended c.requires.within p s w c.end-end.ensures.end) (k.end.ensures.end u p) k.if-end.true y
     ]
 
-pub next_after-next-requires : goal.next_after-next-requires
-next_after-next-requires c =
-    let o = c.requires.stands in
-    let R = seen c.args.view in
-    let w = c.requires.branch o.tree o.part in
-    stands_at o c.args.at w.it (branch_part R c.args.count o.part o.sound w) (branch_sound R c.args.count o.part o.sound w)
+-- The branch lies within the rows.
+inside : {s b : Subtree} → Within s b → (b.root < 127) × (b.root < length s.rows.sets.now)
+inside {s} {b} i = let h = had_standing b.stands in let o = had_standing s.stands in omega (arith, i.count, h.below, o.few, o.long.sets_long)
 
-pub returns-then-next-next_after : goal.returns-then-next-next_after
-returns-then-next-next_after c = λ u p s w e x y.
-    let R = seen c.args.view in
-    let q = branch_part R c.args.count p s w in
-    none_behind_it R c.args.count p s w _ _ (c.next_after-next.ensures.end w.it q) (c.next_after.ensures.end u p) c.if-next-next_after.true y
+pub overflow_sub-last : goal.overflow_sub-last
+overflow_sub-last c = let s = had_standing c.args.part.stands in let w = (c.requires.branch s.tree s.part).at in omega arith
 
-pub first_grave-requires : goal.first_grave-requires
-first_grave-requires c =
-    let o = c.requires.stands in
-    let R = seen c.args.view in
-    let w = c.requires.branch o.tree o.part in
-    let q = branch_part R c.args.count o.part o.sound w in
-    let k = behind_it R c.args.count o.part o.sound w _ _ (c.next_after-next.ensures.end w.it q) (c.next_after.ensures.end o.tree o.part) c.if-next-next_after.false in
-    stands_at o c.next_after-next.result k.next k.part k.sound
+pub offset_bounds-part-branch : goal.offset_bounds-part-branch
+offset_bounds-part-branch c = let i = inside c.requires.within in omega arith
+
+pub bounds-part-branch : goal.bounds-part-branch
+bounds-part-branch c = let i = inside c.requires.within in omega arith
+
+pub invariant_of-next : goal.invariant_of-next
+invariant_of-next c =
+    let s = had_standing c.args.part.stands in
+    let R = seen c.args.part.rows in
+    let n = c.args.part.count in
+    let w = c.requires.branch s.tree s.part in
+    let k = behind_it R n s.part s.sound w _ _ (ended c.requires.within s.part s.sound w c.end-end.ensures.end) (c.end.ensures.end s.tree s.part) c.if-end.false in
+    record { stands = ∣ stands_at s c.end-end.result k.next k.part k.sound ∣₁ }
 
 pub returns : goal.returns
 returns c = λ u p s w.
-    let R = seen c.args.view in
-    let q = branch_part R c.args.count p s w in
-    let a = before_it R c.args.count p s w (c.args.at - 1) (let z = w.at in omega arith) c.if-at-i.false in
-    let k = behind_it R c.args.count p s w _ _ (c.next_after-next.ensures.end w.it q) (c.next_after.ensures.end u p) c.if-next-next_after.false in
+    let R = seen c.args.part.rows in
+    let n = c.args.part.count in
+    let a = before_it R n p s w (c.args.branch.root - 1) (let z = w.at in omega arith) c.if-branch-part.false in
+    let k = behind_it R n p s w _ _ (ended c.requires.within p s w c.end-end.ensures.end) (c.end.ensures.end u p) c.if-end.false in
     let b = c.first_grave.ensures k.next k.part k.sound in (
-      c.if-view-i.false,
+      sym c.sort.ensures ∙ is_row_ne c.sort.result c.if-ne.ensures,
       record {
         fore = a.0;
         rest = b.0 ++ all_graves k.others;

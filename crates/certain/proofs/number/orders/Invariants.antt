@@ -4,4 +4,4 @@ use Rattle.certain.proofs.Factors.{factors}
 use Rattle.certain.proofs.number.orders.Given as goal
 
 abbrev pub invariant-loop-i : goal.invariant-loop-i
-invariant-loop-i l = (l.all ≡ factors (seen l.view) 0 l.i) × (l.all < 2 ^ 64)
+invariant-loop-i l = (l.all ≡ factors (seen l.tree.rows) 0 l.i) × (l.all < 2 ^ 64)

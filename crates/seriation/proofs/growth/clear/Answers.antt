@@ -1,16 +1,8 @@
-use Rattle.std.proofs.Common.{arith}
-use Rattle.seriation.proofs.Clearing.{blank}
 use Rattle.seriation.proofs.growth.clear.Goals as goal
 
-pub returns : goal.returns
-returns c =
-    let a = c.args.count in let e = c.args.end in
-    let p = blank a e c.args.parents.now _ c.requires.ordered (omega arith) (c.fill.ensures.after (λ y h. h)) in
-    let s = blank a e c.args.sorts.now _ c.requires.ordered (omega arith) (c.fill-2.ensures.after (λ y h. h)) in
-    let q = blank a e c.args.places.now _ c.requires.ordered (omega arith) (c.fill-3.ensures.after (λ y h. h)) in
-    let m = blank a e c.args.sets.now _ c.requires.ordered (omega arith) (c.fill-4.ensures.after (λ y h. h)) in
-    record {
-      below = record { parents = p.below; sorts = s.below; places = q.below; sets = m.below };
-      empty = record { parents = p.empty; sorts = s.empty; places = q.empty; sets = m.empty };
-      rest = record { parents = p.rest; sorts = s.rest; places = q.rest; sets = m.rest };
-    }
+pub returns-clause-cleared : goal.returns-clause-cleared
+returns-clause-cleared c = record {
+  below = record { parents = c.empty.ensures.below; sorts = c.empty-2.ensures.below; places = c.empty-3.ensures.below; sets = c.empty-4.ensures.below };
+  empty = record { parents = c.empty.ensures.empty; sorts = c.empty-2.ensures.empty; places = c.empty-3.ensures.empty; sets = c.empty-4.ensures.empty };
+  rest = record { parents = c.empty.ensures.rest; sorts = c.empty-2.ensures.rest; places = c.empty-3.ensures.rest; sets = c.empty-4.ensures.rest };
+}

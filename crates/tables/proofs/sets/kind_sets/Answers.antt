@@ -1,7 +1,6 @@
-use Rattle.std.proofs.Common.{◌≡◌, ℕ, ◌+◌, ◌/◌, Bool, List, length, take, sym, ap, ◌∙◌, arith, length-drop}
+use Rattle.std.proofs.Common.{◌+◌, ◌/◌, length, take, sym, ◌∙◌, arith, length-drop}
 use Rattle.std.proofs.lemmas.List.{ext_get_or, get_or-take, get_or-drop, length-take-le}
-use Rattle.tables.specs.Format.{kind_set}
-use Rattle.tables.proofs.KindList.{kinds_as_sets}
+use Rattle.tables.proofs.KindList.{finds_as_sets}
 use Rattle.tables.proofs.KindSets.{behind_all}
 use Rattle.tables.proofs.sets.kind_sets.Goals as goal
 
@@ -9,8 +8,7 @@ pub returns-clause-finds : goal.returns-clause-finds
 returns-clause-finds c =
     let bs = c.args.table.kinds.now in let m = length bs / 8 in let ss = c.loop-i.sets in
     let all = behind_all c.loop-i.invariant.0 c.in-None.ensures.steps.0.0 in
-    ap (λ (ks : List (ℕ → Bool)). record { graves = c.args.table.graves; kinds = ks })
-    (kinds_as_sets bs 0 m (take m ss) (length-take-le m ss (omega arith)) (λ j h l e. let z : j ≡ h = omega arith in get_or-take m ss j 0 l ∙ c.loop-i.invariant.1 j (omega arith) ∙ ap (kind_set bs) z))
+    finds_as_sets c.args.table.graves bs (take m ss) (length-take-le m ss (omega arith)) (λ j l. get_or-take m ss j 0 l ∙ c.loop-i.invariant.1 j (omega arith))
 
 pub returns-clause-rest : goal.returns-clause-rest
 returns-clause-rest c =
