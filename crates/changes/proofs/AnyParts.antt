@@ -13,11 +13,14 @@ use Rattle.pqtree.specs.Opening.{Opening, stuck, laid, group}
 use Rattle.pqtree.proofs.Status.{heavy_len}
 use Rattle.pqtree.proofs.Chosen.{lined_mixed, lined_heavy, sel_goods}
 use Rattle.pqtree.proofs.Opening.{group_goods, group_count}
-use Rattle.trees.specs.Cells.{sizes, sets_of, kids, Cells, Part, Parts, Sound, Sounds}
+use Rattle.trees.specs.Cells.{sizes, sets_of, kids, Cells, Parts, Sound, Sounds}
 use Rattle.trees.specs.Rows.{seen, Stands}
+use Rattle.trees.specs.Subtrees.{Is}
 use Rattle.trees.specs.declared.rows.View.{View}
+use Rattle.trees.specs.declared.subtree.Subtree.{Subtree}
 use Rattle.trees.proofs.Allowing.{sizes_plus}
 use Rattle.trees.proofs.Cells.{parts_len}
+use Rattle.trees.proofs.Finding.{had_standing}
 use Rattle.trees.proofs.Sets.{same_set, sound_kids}
 use Rattle.trees.proofs.Standing.{kids_size}
 use Rattle.arrayvec.specs.ArrayVec.{ArrayVec, array_vec_len}
@@ -89,78 +92,89 @@ rebuilt_join {S = S} {T = T} at {first = first} {next = next} k ts s i h e f l w
 
 -- ---- by the cells of its branches
 
--- The branches of the part in cell i have their roots in the cells cs, which were set apart by their share of the kind.
-module _ (v : View) (n i m : ℕ) (u : ArrayVec ℕ) (cs : List ℕ) (f : cs ≡ u.items) (g : (t : Tree) → Part (seen v) n i t → Bunched v n u (kids t)) (l : Layout) (a : Apart v.sets.now m cs l) where
-  apart_parts : (want : Share) (w : ArrayVec ℕ) → Picked v.sets.now m cs want w → (xs : List ℕ) → xs ≡ w.items → (t : Tree) → Part (seen v) n i t → Sound t → Parts (seen v) n xs (sel (has m) (told true want) (kids t))
+-- The branches of the part have their roots in the cells cs, which were set apart by their share of the kind.
+module _ (whole_part : Subtree) {m : ℕ} {u : ArrayVec ℕ} {cs : List ℕ} (f : cs ≡ u.items) (g : (t : Tree) → Is whole_part t → Bunched whole_part.rows whole_part.count u (kids t)) {l : Layout} (a : Apart whole_part.rows.sets.now m cs l) where
+  abbrev v : View
+  v = whole_part.rows
+
+  abbrev n : ℕ
+  n = whole_part.count
+
+  abbrev i : ℕ
+  i = whole_part.root
+
+  abbrev s : Stands v n i
+  s = had_standing whole_part.stands
+
+  apart_parts : (want : Share) (w : ArrayVec ℕ) → Picked v.sets.now m cs want w → (xs : List ℕ) → xs ≡ w.items → (t : Tree) → Is whole_part t → Sound t → Parts (seen v) n xs (sel (has m) (told true want) (kids t))
   apart_parts want w c xs e t p q = rw e (picked_bunch v n (has m) true m (mask_has m) cs (kids t) (rw f (g t p)) (sound_kids t q) want w c)
 
-  pub bare_parts : (xs : List ℕ) → xs ≡ l.first.items → (t : Tree) → Part (seen v) n i t → Sound t → Parts (seen v) n xs (sel (has m) bare (kids t))
+  pub bare_parts : (xs : List ℕ) → xs ≡ l.first.items → (t : Tree) → Is whole_part t → Sound t → Parts (seen v) n xs (sel (has m) bare (kids t))
   bare_parts = apart_parts Empty l.first a.first
 
-  pub partial_parts : (xs : List ℕ) → xs ≡ l.middle.items → (t : Tree) → Part (seen v) n i t → Sound t → Parts (seen v) n xs (sel (has m) part (kids t))
+  pub partial_parts : (xs : List ℕ) → xs ≡ l.middle.items → (t : Tree) → Is whole_part t → Sound t → Parts (seen v) n xs (sel (has m) part (kids t))
   partial_parts = apart_parts Partial l.middle a.middle
 
-  pub full_parts : (xs : List ℕ) → xs ≡ l.last.items → (t : Tree) → Part (seen v) n i t → Sound t → Parts (seen v) n xs (sel (has m) full (kids t))
+  pub full_parts : (xs : List ℕ) → xs ≡ l.last.items → (t : Tree) → Is whole_part t → Sound t → Parts (seen v) n xs (sel (has m) full (kids t))
   full_parts = apart_parts Full l.last a.last
 
-  module _ (s : Stands v n i) where
-    abbrev ts : Trees
-    ts = kids s.tree
+  abbrev ts : Trees
+  ts = kids s.tree
 
-    sounds : Sounds ts
-    sounds = sound_kids s.tree s.sound
+  sounds : Sounds ts
+  sounds = sound_kids s.tree s.sound
 
-    pub bare_stand : (xs : List ℕ) → xs ≡ l.first.items → AllStand v n xs
-    bare_stand xs e = record { long = s.long; few = s.few; trees = sel (has m) bare ts; parts = bare_parts xs e s.tree s.part s.sound; sound = sel_sounds (has m) bare ts sounds }
+  pub bare_stand : (xs : List ℕ) → xs ≡ l.first.items → AllStand v n xs
+  bare_stand xs e = record { long = s.long; few = s.few; trees = sel (has m) bare ts; parts = bare_parts xs e s.tree s.part s.sound; sound = sel_sounds (has m) bare ts sounds }
 
-    pub partial_stand : (xs : List ℕ) → xs ≡ l.middle.items → AllStand v n xs
-    partial_stand xs e = record { long = s.long; few = s.few; trees = sel (has m) part ts; parts = partial_parts xs e s.tree s.part s.sound; sound = sel_sounds (has m) part ts sounds }
+  pub partial_stand : (xs : List ℕ) → xs ≡ l.middle.items → AllStand v n xs
+  partial_stand xs e = record { long = s.long; few = s.few; trees = sel (has m) part ts; parts = partial_parts xs e s.tree s.part s.sound; sound = sel_sounds (has m) part ts sounds }
 
-    pub full_stand : (xs : List ℕ) → xs ≡ l.last.items → AllStand v n xs
-    full_stand xs e = record { long = s.long; few = s.few; trees = sel (has m) full ts; parts = full_parts xs e s.tree s.part s.sound; sound = sel_sounds (has m) full ts sounds }
+  pub full_stand : (xs : List ℕ) → xs ≡ l.last.items → AllStand v n xs
+  full_stand xs e = record { long = s.long; few = s.few; trees = sel (has m) full ts; parts = full_parts xs e s.tree s.part s.sound; sound = sel_sounds (has m) full ts sounds }
 
-    module _ (d : (seen v).sort i ≡ 1) (h : 2 ≤ heavy (has m) ts) (ys zs : List ℕ) (y : ys ≡ l.middle.items) (z : zs ≡ l.last.items) where
-      pub two_heavy : 2 ≤ length ys + length zs
-      two_heavy =
-          let b = parts_len (seen v) n ys (sel (has m) part ts) (partial_parts ys y s.tree s.part s.sound) in
-          let c = parts_len (seen v) n zs (sel (has m) full ts) (full_parts zs z s.tree s.part s.sound) in
-          let e = heavy_len (has m) (sel (has m) part ts) in
-          let j = heavy_len (has m) (sel (has m) full ts) in
-          omega (arith, lined_heavy (has m) ts)
+  module _ (d : (seen v).sort i ≡ 1) (h : (t : Tree) → Is whole_part t → 2 ≤ heavy (has m) (kids t)) (ys zs : List ℕ) (y : ys ≡ l.middle.items) (z : zs ≡ l.last.items) where
+    pub two_heavy : 2 ≤ length ys + length zs
+    two_heavy =
+        let b = parts_len (seen v) n ys (sel (has m) part ts) (partial_parts ys y s.tree s.part s.sound) in
+        let c = parts_len (seen v) n zs (sel (has m) full ts) (full_parts zs z s.tree s.part s.sound) in
+        let e = heavy_len (has m) (sel (has m) part ts) in
+        let j = heavy_len (has m) (sel (has m) full ts) in
+        omega (arith, h s.tree s.part, lined_heavy (has m) ts)
 
-      whole : ones ((seen v).set i) ≡ sizes (sel (has m) bare ts) + (weight v.sets.now ys + weight v.sets.now zs)
-      whole =
-          let b = parts_weight v n ys (sel (has m) part ts) (partial_parts ys y s.tree s.part s.sound) (sel_sounds (has m) part ts sounds) in
-          let c = parts_weight v n zs (sel (has m) full ts) (full_parts zs z s.tree s.part s.sound) (sel_sounds (has m) full ts sounds) in
-          let e = mixed_sizes (lined_mixed (has m) true ts) in
-          let j = sizes_plus (sel (has m) bare ts) (sel (has m) part ts +++ sel (has m) full ts) in
-          let k = sizes_plus (sel (has m) part ts) (sel (has m) full ts) in
-          omega (arith, kids_size (seen v) n i s.tree s.part s.sound (omega arith))
+    whole : ones ((seen v).set i) ≡ sizes (sel (has m) bare ts) + (weight v.sets.now ys + weight v.sets.now zs)
+    whole =
+        let b = parts_weight v n ys (sel (has m) part ts) (partial_parts ys y s.tree s.part s.sound) (sel_sounds (has m) part ts sounds) in
+        let c = parts_weight v n zs (sel (has m) full ts) (full_parts zs z s.tree s.part s.sound) (sel_sounds (has m) full ts sounds) in
+        let e = mixed_sizes (lined_mixed (has m) true ts) in
+        let j = sizes_plus (sel (has m) bare ts) (sel (has m) part ts +++ sel (has m) full ts) in
+        let k = sizes_plus (sel (has m) part ts) (sel (has m) full ts) in
+        omega (arith, kids_size (seen v) n i s.tree s.part s.sound (omega arith))
 
-      -- There is room for those with the kind.
-      pub room_heavy : (o : ℕ) → o + 2 * ones ((seen v).set i) ≤ 255 → o + 2 * (weight v.sets.now ys + weight v.sets.now zs) ≤ 255
-      room_heavy o r = omega (arith, whole)
+    -- There is room for those with the kind.
+    pub room_heavy : (o : ℕ) → o + 2 * ones ((seen v).set i) ≤ 255 → o + 2 * (weight v.sets.now ys + weight v.sets.now zs) ≤ 255
+    room_heavy o r = omega (arith, whole)
 
-      pub room_bares : {at : Spot} → Room at (2 * ones ((seen v).set i)) → (xs : List ℕ) → xs ≡ l.first.items → Room at (2 * weight v.sets.now xs)
-      room_bares r xs e =
-          let b = parts_weight v n xs (sel (has m) bare ts) (bare_parts xs e s.tree s.part s.sound) (sel_sounds (has m) bare ts sounds) in
-          room_less _ _ (omega (arith, whole)) r
+    pub room_bares : {at : Spot} → Room at (2 * ones ((seen v).set i)) → (xs : List ℕ) → xs ≡ l.first.items → Room at (2 * weight v.sets.now xs)
+    room_bares r xs e =
+        let b = parts_weight v n xs (sel (has m) bare ts) (bare_parts xs e s.tree s.part s.sound) (sel_sounds (has m) bare ts sounds) in
+        room_less _ _ (omega (arith, whole)) r
 
-      -- Behind the bare ones too, if there are any.
-      pub room_joined : {R : Cells} {at next : Spot} → Room at (2 * ones ((seen v).set i)) → 0 < array_vec_len l.first → (xs : List ℕ) → xs ≡ l.first.items →
-          ((ts : Trees) → Parts (seen v) n xs ts → Wrote R at next ts) → next.cell + 2 * (weight v.sets.now ys + weight v.sets.now zs) ≤ 255
-      room_joined r b xs e w =
-          let es = sel (has m) bare ts in
-          let p = bare_parts xs e s.tree s.part s.sound in
-          let c = parts_len (seen v) n xs es p in
-          let j = ap length e in
-          let k = room_after es _ (2 * (weight v.sets.now ys + weight v.sets.now zs) + 1) (w es p) (sel_goods (has m) bare ts sounds.good) (omega (arith, whole)) r in
-          omega (arith, k.fits)
+    -- Behind the bare ones too, if there are any.
+    pub room_joined : {R : Cells} {at next : Spot} → Room at (2 * ones ((seen v).set i)) → 0 < array_vec_len l.first → (xs : List ℕ) → xs ≡ l.first.items →
+        ((ts : Trees) → Parts (seen v) n xs ts → Wrote R at next ts) → next.cell + 2 * (weight v.sets.now ys + weight v.sets.now zs) ≤ 255
+    room_joined r b xs e w =
+        let es = sel (has m) bare ts in
+        let p = bare_parts xs e s.tree s.part s.sound in
+        let c = parts_len (seen v) n xs es p in
+        let j = ap length e in
+        let k = room_after es _ (2 * (weight v.sets.now ys + weight v.sets.now zs) + 1) (w es p) (sel_goods (has m) bare ts sounds.good) (omega (arith, whole)) r in
+        omega (arith, k.fits)
 
-  pub some_bare : 0 < array_vec_len l.first → (t : Tree) → Part (seen v) n i t → Sound t → 0 < len (sel (has m) bare (kids t))
+  pub some_bare : 0 < array_vec_len l.first → (t : Tree) → Is whole_part t → Sound t → 0 < len (sel (has m) bare (kids t))
   some_bare b t p q = omega (arith, parts_len (seen v) n l.first.items (sel (has m) bare (kids t)) (bare_parts l.first.items refl t p q))
 
-  pub none_bare : array_vec_len l.first ≡ 0 → (t : Tree) → Part (seen v) n i t → Sound t → sel (has m) bare (kids t) ≡ none
+  pub none_bare : array_vec_len l.first ≡ 0 → (t : Tree) → Is whole_part t → Sound t → sel (has m) bare (kids t) ≡ none
   none_bare b t p q = go (sel (has m) bare (kids t)) (omega (arith, parts_len (seen v) n l.first.items (sel (has m) bare (kids t)) (bare_parts l.first.items refl t p q)))
     where
       go : (es : Trees) → len es ≡ 0 → es ≡ none

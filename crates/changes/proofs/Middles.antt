@@ -1,7 +1,8 @@
 -- The partial branches and the full ones, bound together as a program does it.
-use Rattle.std.proofs.Common.{◌≡◌, ℕ, ◌+◌, ◌*◌, ◌<◌, ◌≤◌, Bool, true, false, cond, List, length, get_or, drop, Some, None, Option, sym, refl, ap, ◌∙◌, arith}
+use Rattle.std.proofs.Common.{◌≡◌, ℕ, ◌+◌, ◌*◌, ◌<◌, ◌≤◌, Bool, true, false, eqb, cond, List, length, get_or, drop, Some, None, Option, sym, refl, ap, ◌∙◌, arith}
 use lib.Bits.{bit_or}
 use lib.Count.{ones}
+use Rattle.std.proofs.lemmas.Bool.{eqb-false}
 use Rattle.finds.specs.Trees.{Tree, any, Trees, none, more, Goods, len}
 use Rattle.finds.specs.Branches.{◌+++◌}
 use Rattle.finds.specs.Sets.{has}
@@ -27,6 +28,7 @@ use Rattle.changes.specs.Draft.{Kept}
 use Rattle.changes.specs.Shares.{union_of}
 use Rattle.changes.specs.Written.{Room, Wrote, Opened, laid_at}
 use Rattle.changes.proofs.Fronts.{tree_at, back, part_at, sound_at, parts_back, sounds_back, three_sizes, three_len}
+use Rattle.changes.proofs.Having.{had_all}
 use Rattle.changes.proofs.Keeping.{Keeps, same_group, same_sizes, keeps_as, keeps_plus, keeps_up, keeps_row}
 use Rattle.changes.proofs.Laying.{room_less}
 use Rattle.changes.proofs.Openings.{opened_on, opened_plus, opened_not, opened_room_more, Found}
@@ -51,10 +53,6 @@ middle_is k (more p ps) fs l a g c =
     go true = refl
     go false = refl
 
--- So it is for the branches of those statuses.
-pub sel_middle : (k : ℕ → Bool) (ts : Trees) → Sounds ts → 0 < len (sel k part ts) → cut_middle k (sel k part ts) (sel k full ts) ≡ as_row (laid_middle k (sel k part ts) (sel k full ts))
-sel_middle k ts s l = middle_is k (sel k part ts) (sel k full ts) l (sel_are k part ts) (sel_goods k full ts s.good) (sel_are k full ts)
-
 pub no_middle : (k : ℕ → Bool) (ps fs : Trees) → len ps ≡ 0 → cut_middle k ps fs ≡ made (any fs)
 no_middle k none fs e = refl
 no_middle k (more p ps) fs e = absurd (omega arith)
@@ -74,7 +72,10 @@ middle_set a b partials fulls ps fs p q e f = rw (e ∙ parts_union fulls.rows _
 -- ---- by the partial branches and the full ones
 
 -- There is a partial branch.
-module _ (m : ℕ) (partials fulls : Parts) (l : 0 < length partials.cells.now) where
+module _ (m : ℕ) (partials fulls : Parts) (e : false ≡ eqb (length partials.cells.now) 0) where
+  l : 0 < length partials.cells.now
+  l = omega (arith, eqb-false (length partials.cells.now) 0 (sym e))
+
   abbrev v : View
   v = partials.rows
 
@@ -94,7 +95,11 @@ module _ (m : ℕ) (partials fulls : Parts) (l : 0 < length partials.cells.now) 
   rest_parts ps p = parts_back (seen v) n cs ps 1 p
 
   some : (ps : Trees) → Are partials ps → 0 < len ps
-  some ps p = omega (arith, parts_len (seen v) n cs ps p)
+  some ps p = omega (arith, l, parts_len (seen v) n cs ps p)
+
+  -- So it is for the branches of those statuses.
+  pub sel_middle : (ts : Trees) → Sounds ts → Are partials (sel (has m) part ts) → cut_middle (has m) (sel (has m) part ts) (sel (has m) full ts) ≡ as_row (laid_middle (has m) (sel (has m) part ts) (sel (has m) full ts))
+  sel_middle ts s p = middle_is (has m) (sel (has m) part ts) (sel (has m) full ts) (some _ p) (sel_are (has m) part ts) (sel_goods (has m) full ts s.good) (sel_are (has m) full ts)
 
   one_there : {R : Cells} {at : Spot} {r : Option Spot} → Found v n m (get_or cs 0 0) R at r → (ps : Trees) → Are partials ps → Sounds ps → Opened R at r (open_up (has m) true (tree_at 0 ps))
   one_there o ps p q = o (has m) true (mask_has m) (tree_at 0 ps) (part_at (seen v) n cs ps 0 p l) (sound_at ps 0 q (some ps p))
@@ -119,52 +124,54 @@ module _ (m : ℕ) (partials fulls : Parts) (l : 0 < length partials.cells.now) 
 
   -- ---- they stand, and there is room
 
-  module _ (s : AllStand v n cs) where
-    pub rest_stand : AllStand v n rest
-    rest_stand = record { long = s.long; few = s.few; trees = back 1 s.trees; parts = rest_parts s.trees s.parts; sound = sounds_back 1 s.trees s.sound }
+  abbrev s : AllStand v n cs
+  s = had_all partials.stand
 
-    abbrev p : Tree
-    p = tree_at 0 s.trees
+  abbrev z : AllStand fulls.rows fulls.count fulls.cells.now
+  z = had_all fulls.stand
 
-    p_sound : Sound p
-    p_sound = sound_at s.trees 0 s.sound (some s.trees s.parts)
+  abbrev p : Tree
+  p = tree_at 0 s.trees
 
-    p_size : ones (get_or v.sets.now (get_or cs 0 0) 0) ≡ size p
-    p_size = part_size (seen v) n (get_or cs 0 0) p (part_at (seen v) n cs s.trees 0 s.parts l) p_sound
+  p_sound : Sound p
+  p_sound = sound_at s.trees 0 s.sound (some s.trees s.parts)
 
-    all_size : weight v.sets.now cs ≡ size p + sizes (back 1 s.trees)
-    all_size = let a = parts_weight v n cs s.trees s.parts s.sound in let b = three_sizes 0 s.trees (some s.trees s.parts) in omega arith
+  p_size : ones (get_or v.sets.now (get_or cs 0 0) 0) ≡ size p
+  p_size = part_size (seen v) n (get_or cs 0 0) p (part_at (seen v) n cs s.trees 0 s.parts l) p_sound
 
-    module _ (z : AllStand fulls.rows fulls.count fulls.cells.now) {at : Spot} (r : Room at (2 * (weight v.sets.now cs + full_weight))) where
-      -- Another branch has a grave too.
-      pub room_one : 2 ≤ length cs + length fulls.cells.now → Room at (2 * ones (get_or v.sets.now (get_or cs 0 0) 0) + 1)
-      room_one two =
-          let a = stand_weight _ _ _ z in
-          let b = goods_len (back 1 s.trees) (sounds_back 1 s.trees s.sound).good in
-          let c = three_len 0 s.trees (some s.trees s.parts) in
-          let d = parts_len (seen v) n cs s.trees s.parts in
-          room_less _ _ (omega (arith, p_size, all_size)) r
+  all_size : weight v.sets.now cs ≡ size p + sizes (back 1 s.trees)
+  all_size = let a = parts_weight v n cs s.trees s.parts s.sound in let b = three_sizes 0 s.trees (some s.trees s.parts) in omega arith
 
-      module _ {R : Cells} {next : Spot} (o : Found v n m (get_or cs 0 0) R at (Some next)) where
-        room_two : Room next (2 * (sizes (back 1 s.trees) + full_weight) + 1)
-        room_two =
-            opened_room_more (more p none) _ _ (one_there o s.trees s.parts s.sound) (keeps_up (has m) true p p_sound.good) (omega (arith, good_size p p_sound.good)) (omega (arith, all_size)) r
+  module _ {at : Spot} (r : Room at (2 * (weight v.sets.now cs + full_weight))) where
+    -- Another branch has a grave too.
+    pub room_one : 2 ≤ length cs + length fulls.cells.now → Room at (2 * ones (get_or v.sets.now (get_or cs 0 0) 0) + 1)
+    room_one two =
+        let a = stand_weight _ _ _ z in
+        let b = goods_len (back 1 s.trees) (sounds_back 1 s.trees s.sound).good in
+        let c = three_len 0 s.trees (some s.trees s.parts) in
+        let d = parts_len (seen v) n cs s.trees s.parts in
+        room_less _ _ (omega (arith, p_size, all_size)) r
 
-        pub room_fulls : Room next (2 * full_weight + 1)
-        room_fulls = room_less _ _ (omega arith) room_two
+    module _ {R : Cells} {next : Spot} (o : Found v n m (get_or cs 0 0) R at (Some next)) where
+      room_two : Room next (2 * (sizes (back 1 s.trees) + full_weight) + 1)
+      room_two =
+          opened_room_more (more p none) _ _ (one_there o s.trees s.parts s.sound) (keeps_up (has m) true p p_sound.good) (omega (arith, good_size p p_sound.good)) (omega (arith, all_size)) r
 
-        pub kept_one : {Q S : Cells} → Kept Q R at.cell → Kept R S next.cell → Kept Q S at.cell
-        kept_one h j = kept_trans h (opened_on (one_there o s.trees s.parts s.sound)) j
+      pub room_fulls : Room next (2 * full_weight + 1)
+      room_fulls = room_less _ _ (omega arith) room_two
 
-        module _ {S : Cells} {mid : Spot} (w : (us : Trees) → Are fulls us → Wrote S next mid (group us)) where
-          pub kept_two : {Q T : Cells} → Kept Q R at.cell → Kept R S next.cell → Kept S T mid.cell → Kept Q T at.cell
-          kept_two h j a = kept_one h (kept_trans j (wrote_on _ (w z.trees z.parts)) a)
+      pub kept_one : {Q S : Cells} → Kept Q R at.cell → Kept R S next.cell → Kept Q S at.cell
+      kept_one h j = kept_trans h (opened_on (one_there o s.trees s.parts s.sound)) j
 
-          pub room_rest : Room mid (2 * weight v.sets.now rest + 1)
-          room_rest =
-              let fs = z.trees in
-              let g = same_group fs z.sound.good in
-              let a = same_sizes (group fs) fs g in
-              let b = parts_weight fulls.rows _ _ fs z.parts z.sound in
-              let c = parts_weight v n rest (back 1 s.trees) (rest_parts s.trees s.parts) (sounds_back 1 s.trees s.sound) in
-              room_after (group fs) _ _ (w fs z.parts) g.good (omega arith) room_two
+      module _ {S : Cells} {mid : Spot} (w : (us : Trees) → Are fulls us → Wrote S next mid (group us)) where
+        pub kept_two : {Q T : Cells} → Kept Q R at.cell → Kept R S next.cell → Kept S T mid.cell → Kept Q T at.cell
+        kept_two h j a = kept_one h (kept_trans j (wrote_on _ (w z.trees z.parts)) a)
+
+        pub room_rest : Room mid (2 * weight v.sets.now rest + 1)
+        room_rest =
+            let fs = z.trees in
+            let g = same_group fs z.sound.good in
+            let a = same_sizes (group fs) fs g in
+            let b = parts_weight fulls.rows _ _ fs z.parts z.sound in
+            let c = parts_weight v n rest (back 1 s.trees) (rest_parts s.trees s.parts) (sounds_back 1 s.trees s.sound) in
+            room_after (group fs) _ _ (w fs z.parts) g.good (omega arith) room_two

@@ -7,9 +7,12 @@ use Rattle.trees.specs.Cells.{Cells, Sounds}
 use Rattle.trees.specs.Rows.{seen}
 use Rattle.trees.specs.declared.rows.View.{View}
 use Rattle.trees.specs.declared.subtree.Subtree.{Subtree}
+use Rattle.changes.specs.Layouts.{Apart}
 use Rattle.changes.specs.Parts.{Are, Lying, Front, Behind, At}
+use Rattle.changes.specs.Shares.{FirstWith}
 use Rattle.changes.specs.Written.{Wrote, Opened}
 use Rattle.changes.specs.declared.draft.Spot.{Spot}
+use Rattle.changes.specs.declared.opening.Layout.{Layout}
 use Rattle.changes.specs.declared.parts.Parts.{Parts}
 use Rattle.changes.proofs.Openings.{Found, FoundAll}
 use Rattle.changes.proofs.Through.{to_part, from_part, to_parts, from_parts}
@@ -34,6 +37,12 @@ module _ {v : View} {n : ℕ} {cs : List ℕ} {p : Parts} (l : Lying v n cs p) w
   pub row_found : {k : ℕ → Bool} {R : Cells} {at : Spot} {r : Option Spot} → ((ts : Trees) → Are p ts → Sounds ts → Opened R at r (open_row k false ts)) →
       (ts : Trees) → cells.Parts (seen v) n cs ts → Sounds ts → Opened R at r (open_row k false ts)
   row_found {k} {R} {at} {r} = from_parts (λ (v : View) (n : ℕ) (cs : List ℕ). (ts : Trees) → cells.Parts (seen v) n cs ts → Sounds ts → Opened R at r (open_row k false ts)) l
+
+  pub first_lying : (m : ℕ) (r : Option ℕ) → FirstWith p.rows.sets.now m p.cells.now r → FirstWith v.sets.now m cs r
+  first_lying m r = from_parts (λ (v : View) (n : ℕ) (cs : List ℕ). FirstWith v.sets.now m cs r) l
+
+  pub apart_lying : {m : ℕ} {a : Layout} → Apart p.rows.sets.now m p.cells.now a → Apart v.sets.now m cs a
+  apart_lying {m} {a} = from_parts (λ (v : View) (n : ℕ) (cs : List ℕ). Apart v.sets.now m cs a) l
 
   -- Some of the parts lie in the same rows.
   pub front_lying : (x : ℕ) {f : Parts} → Front p x f → Lying v n (take x cs) f

@@ -6,18 +6,21 @@ use Rattle.finds.specs.Sets.{has}
 use Rattle.pqtree.specs.Status.{Status, bare, part, full, status}
 use Rattle.pqtree.specs.Change.{if_bare, row_cut}
 use Rattle.pqtree.specs.Opening.{Opening, stuck, laid, ◌⊞◌, open_up, open_row}
-use Rattle.trees.specs.Cells.{size, sizes, kids, Cells, Body, Part, Parts, Sound, Sounds}
+use Rattle.trees.specs.Cells.{size, sizes, kids, Cells, Body, Parts, Sound, Sounds}
 use Rattle.trees.specs.Rows.{seen, Stands}
+use Rattle.trees.specs.Subtrees.{Is}
 use Rattle.trees.specs.declared.rows.View.{View}
+use Rattle.trees.specs.declared.subtree.Subtree.{Subtree}
 use Rattle.trees.proofs.Allowing.{good_size, goods_len}
 use Rattle.trees.proofs.Cells.{parts_len}
+use Rattle.trees.proofs.Finding.{had_standing}
 use Rattle.trees.proofs.Sets.{sound_kids}
 use Rattle.trees.proofs.Standing.{part_size, kids_size}
 use Rattle.arrayvec.specs.ArrayVec.{ArrayVec}
 use Rattle.changes.specs.declared.shares.Share.{Share}
 use Rattle.changes.specs.declared.shares.Share.TheVariants.{Empty, Partial, Full}
 use Rattle.changes.specs.declared.draft.Spot.{Spot}
-use Rattle.changes.specs.Bunches.{AllStand, weight}
+use Rattle.changes.specs.Bunches.{weight}
 use Rattle.changes.specs.Draft.{Kept}
 use Rattle.changes.specs.Layouts.{Bunched}
 use Rattle.changes.specs.Shares.{share, EmptyFirst}
@@ -76,24 +79,36 @@ told_bare Empty e = refl
 told_bare Partial e = absurd (let z : ◌≡◌ {A = ℕ} 0 1 = cc in omega arith)
 told_bare Full e = absurd (let z : ◌≡◌ {A = ℕ} 0 1 = cc in omega arith)
 
--- The branches of the part in cell i have their roots in the cells cs, of which the first x have nothing of the kind.
-module _ (v : View) (n i m : ℕ) (u : ArrayVec ℕ) (cs : List ℕ) (f : cs ≡ u.items) (g : (t : Tree) → Part (seen v) n i t → Bunched v n u (kids t)) (x : ℕ) (e : EmptyFirst v.sets.now m cs x) where
-  parts : (t : Tree) → Part (seen v) n i t → Parts (seen v) n cs (kids t)
+-- The branches of the part have their roots in the cells cs, of which the first x have nothing of the kind.
+module _ (part : Subtree) {m x : ℕ} {u : ArrayVec ℕ} {cs : List ℕ} (f : cs ≡ u.items) (g : (t : Tree) → Is part t → Bunched part.rows part.count u (kids t)) (e : EmptyFirst part.rows.sets.now m cs x) where
+  abbrev v : View
+  v = part.rows
+
+  abbrev n : ℕ
+  n = part.count
+
+  abbrev i : ℕ
+  i = part.root
+
+  abbrev s : Stands v n i
+  s = had_standing part.stands
+
+  parts : (t : Tree) → Is part t → Parts (seen v) n cs (kids t)
   parts t p = rw f (g t p)
 
-  many : (t : Tree) → Part (seen v) n i t → length cs ≡ len (kids t)
+  many : (t : Tree) → Is part t → length cs ≡ len (kids t)
   many t p = parts_len (seen v) n cs (kids t) (parts t p)
 
-  tells : (t : Tree) → Part (seen v) n i t → Sound t → (y : ℕ) → y < length cs → status (has m) (tree_at y (kids t)) ≡ told true (share (get_or v.sets.now (get_or cs y 0) 0) m)
+  tells : (t : Tree) → Is part t → Sound t → (y : ℕ) → y < length cs → status (has m) (tree_at y (kids t)) ≡ told true (share (get_or v.sets.now (get_or cs y 0) 0) m)
   tells t p q y l =
       cell_tells (has m) true m (mask_has m) v n (get_or cs y 0) (tree_at y (kids t)) (part_at (seen v) n cs (kids t) y (parts t p) l)
       (sound_at (kids t) y (sound_kids t q) (omega (arith, many t p)))
 
-  bares : (t : Tree) → Part (seen v) n i t → Sound t → (y : ℕ) → y < x → status (has m) (tree_at y (kids t)) ≡ bare
+  bares : (t : Tree) → Is part t → Sound t → (y : ℕ) → y < x → status (has m) (tree_at y (kids t)) ≡ bare
   bares t p q y l = tells t p q y (omega (arith, e.within)) ∙ ap (told true) (e.before y l)
 
   -- No branch has the kind.
-  pub is_torn : length cs ≤ x → (t : Tree) → Part (seen v) n i t → Sound t → row_cut (has m) (kids t) ≡ stuck
+  pub is_torn : length cs ≤ x → (t : Tree) → Is part t → Sound t → row_cut (has m) (kids t) ≡ stuck
   is_torn l t p q = cut_none (has m) (kids t) (λ y h. bares t p q y (omega (arith, many t p)))
 
   abbrev pub before : List ℕ
@@ -102,27 +117,27 @@ module _ (v : View) (n i m : ℕ) (u : ArrayVec ℕ) (cs : List ℕ) (f : cs ≡
   abbrev pub behind : List ℕ
   behind = drop (x + 1) cs
 
-  before_parts : (t : Tree) → Part (seen v) n i t → Parts (seen v) n before (front x (kids t))
+  before_parts : (t : Tree) → Is part t → Parts (seen v) n before (front x (kids t))
   before_parts t p = parts_front (seen v) n cs (kids t) x (parts t p)
 
-  behind_parts : (t : Tree) → Part (seen v) n i t → Parts (seen v) n behind (back (x + 1) (kids t))
+  behind_parts : (t : Tree) → Is part t → Parts (seen v) n behind (back (x + 1) (kids t))
   behind_parts t p = parts_back (seen v) n cs (kids t) (x + 1) (parts t p)
 
   -- The first ones are copied, and the next one has the kind.
   module _ (l : x < length cs) {R : Cells} {at mid : Spot} (w : (ts : Trees) → Parts (seen v) n before ts → Wrote R at mid ts) where
-    is_cut : (t : Tree) → Part (seen v) n i t → Sound t → row_cut (has m) (kids t) ≡ laid (front x (kids t)) ⊞ (open_up (has m) true (tree_at x (kids t)) ⊞ open_row (has m) false (back (x + 1) (kids t)))
+    is_cut : (t : Tree) → Is part t → Sound t → row_cut (has m) (kids t) ≡ laid (front x (kids t)) ⊞ (open_up (has m) true (tree_at x (kids t)) ⊞ open_row (has m) false (back (x + 1) (kids t)))
     is_cut t p q = cut_at (has m) x (kids t) (omega (arith, many t p)) (bares t p q) (λ z. e.next l (told_bare _ (sym (tells t p q x l) ∙ z)))
 
-    there : {S : Cells} {r : Option Spot} → Found v n m (get_or cs x 0) S mid r → (t : Tree) → Part (seen v) n i t → Sound t → Opened S mid r (open_up (has m) true (tree_at x (kids t)))
+    there : {S : Cells} {r : Option Spot} → Found v n m (get_or cs x 0) S mid r → (t : Tree) → Is part t → Sound t → Opened S mid r (open_up (has m) true (tree_at x (kids t)))
     there o t p q = o (has m) true (mask_has m) (tree_at x (kids t)) (part_at (seen v) n cs (kids t) x (parts t p) l) (sound_at (kids t) x (sound_kids t q) (omega (arith, many t p)))
 
     -- It cannot be laid open.
-    pub cut_stuck : {S : Cells} → Kept R S mid.cell → Found v n m (get_or cs x 0) S mid None → (t : Tree) → Part (seen v) n i t → Sound t → Opened S at None (row_cut (has m) (kids t))
+    pub cut_stuck : {S : Cells} → Kept R S mid.cell → Found v n m (get_or cs x 0) S mid None → (t : Tree) → Is part t → Sound t → Opened S at None (row_cut (has m) (kids t))
     cut_stuck h o t p q = rw (is_cut t p q) (opened_plus (laid_at (w (front x (kids t)) (before_parts t p))) h (opened_not (open_row (has m) false (back (x + 1) (kids t))) (there o t p q)))
 
     -- It is laid open, and r is what comes of the rest, laid open the other way.
     pub cut_opened : {S T : Cells} {next : Spot} {r : Option Spot} → Kept R S mid.cell → Found v n m (get_or cs x 0) S mid (Some next) → Kept S T next.cell →
-        ((ts : Trees) → Parts (seen v) n behind ts → Sounds ts → Opened T next r (open_row (has m) false ts)) → (t : Tree) → Part (seen v) n i t → Sound t → Opened T at r (row_cut (has m) (kids t))
+        ((ts : Trees) → Parts (seen v) n behind ts → Sounds ts → Opened T next r (open_row (has m) false ts)) → (t : Tree) → Is part t → Sound t → Opened T at r (row_cut (has m) (kids t))
     cut_opened h o j rest t p q =
         let z = there o t p q in
         rw (is_cut t p q)
@@ -130,57 +145,50 @@ module _ (v : View) (n i m : ℕ) (u : ArrayVec ℕ) (cs : List ℕ) (f : cs ≡
 
   -- ---- the branches stand, and there is room
 
-  module _ (s : Stands v n i) where
-    pub before_stand : AllStand v n before
-    before_stand = record { long = s.long; few = s.few; trees = front x (kids s.tree); parts = before_parts s.tree s.part; sound = sounds_front x (kids s.tree) (sound_kids s.tree s.sound) }
+  module _ (d : (seen v).sort i ≡ 2) {at : Spot} (r : Room at (2 * ones ((seen v).set i))) (l : x < length cs) where
+    abbrev ts : Trees
+    ts = kids s.tree
 
-    pub behind_stand : AllStand v n behind
-    behind_stand = record { long = s.long; few = s.few; trees = back (x + 1) (kids s.tree); parts = behind_parts s.tree s.part; sound = sounds_back (x + 1) (kids s.tree) (sound_kids s.tree s.sound) }
+    goods : Sounds ts
+    goods = sound_kids s.tree s.sound
 
-    module _ (d : (seen v).sort i ≡ 2) {at : Spot} (r : Room at (2 * ones ((seen v).set i))) (l : x < length cs) where
-      abbrev ts : Trees
-      ts = kids s.tree
+    whole : ones ((seen v).set i) ≡ sizes (front x ts) + (size (tree_at x ts) + sizes (back (x + 1) ts))
+    whole = sym (kids_size (seen v) n i s.tree s.part s.sound (omega arith)) ∙ three_sizes x ts (omega (arith, many s.tree s.part))
 
-      goods : Sounds ts
-      goods = sound_kids s.tree s.sound
+    pub room_before : Room at (2 * weight v.sets.now before)
+    room_before =
+        let a = parts_weight v n before (front x ts) (before_parts s.tree s.part) (sounds_front x ts goods) in
+        room_less _ _ (omega (arith, whole)) r
 
-      whole : ones ((seen v).set i) ≡ sizes (front x ts) + (size (tree_at x ts) + sizes (back (x + 1) ts))
-      whole = sym (kids_size (seen v) n i s.tree s.part s.sound (omega arith)) ∙ three_sizes x ts (omega (arith, many s.tree s.part))
+    next_size : ones (get_or v.sets.now (get_or cs x 0) 0) ≡ size (tree_at x ts)
+    next_size = part_size (seen v) n (get_or cs x 0) (tree_at x ts) (part_at (seen v) n cs ts x (parts s.tree s.part) l) (sound_at ts x goods (omega (arith, many s.tree s.part)))
 
-      pub room_before : Room at (2 * weight v.sets.now before)
-      room_before =
-          let a = parts_weight v n before (front x ts) (before_parts s.tree s.part) (sounds_front x ts goods) in
-          room_less _ _ (omega (arith, whole)) r
+    module _ {R : Cells} {mid : Spot} (w : (ts : Trees) → Parts (seen v) n before ts → Wrote R at mid ts) where
+      wrote : Wrote R at mid (front x ts)
+      wrote = w (front x ts) (before_parts s.tree s.part)
 
-      next_size : ones (get_or v.sets.now (get_or cs x 0) 0) ≡ size (tree_at x ts)
-      next_size = part_size (seen v) n (get_or cs x 0) (tree_at x ts) (part_at (seen v) n cs ts x (parts s.tree s.part) l) (sound_at ts x goods (omega (arith, many s.tree s.part)))
+      pub kept_before : {Q S : Cells} → Kept Q R at.cell → Kept R S mid.cell → Kept Q S at.cell
+      kept_before h j = kept_trans h (wrote_on (front x ts) wrote) j
 
-      module _ {R : Cells} {mid : Spot} (w : (ts : Trees) → Parts (seen v) n before ts → Wrote R at mid ts) where
-        wrote : Wrote R at mid (front x ts)
-        wrote = w (front x ts) (before_parts s.tree s.part)
+      -- A row has three branches at least, so others come before or behind.
+      pub room_next : Room mid (2 * ones (get_or v.sets.now (get_or cs x 0) 0) + 1)
+      room_next =
+          let a = row_long (seen v) i s.tree s.part.0 d s.sound.good in
+          let b = three_len x ts (omega (arith, many s.tree s.part)) in
+          let c = goods_len (back (x + 1) ts) (sounds_back (x + 1) ts goods).good in
+          room_after (front x ts) _ _ wrote (front_goods x ts goods.good) (omega (arith, whole, next_size)) r
 
-        pub kept_before : {Q S : Cells} → Kept Q R at.cell → Kept R S mid.cell → Kept Q S at.cell
-        kept_before h j = kept_trans h (wrote_on (front x ts) wrote) j
+      module _ {S : Cells} {next : Spot} (o : Found v n m (get_or cs x 0) S mid (Some next)) where
+        laid_there : Opened S mid (Some next) (open_up (has m) true (tree_at x ts))
+        laid_there = there l w o s.tree s.part s.sound
 
-        -- A row has three branches at least, so others come before or behind.
-        pub room_next : Room mid (2 * ones (get_or v.sets.now (get_or cs x 0) 0) + 1)
-        room_next =
-            let a = row_long (seen v) i s.tree s.part.0 d s.sound.good in
-            let b = three_len x ts (omega (arith, many s.tree s.part)) in
-            let c = goods_len (back (x + 1) ts) (sounds_back (x + 1) ts goods).good in
-            room_after (front x ts) _ _ wrote (front_goods x ts goods.good) (omega (arith, whole, next_size)) r
+        pub kept_next : {Q T : Cells} → Kept Q R at.cell → Kept R S mid.cell → Kept S T next.cell → Kept Q T at.cell
+        kept_next h j a = kept_before h (kept_trans j (opened_on laid_there) a)
 
-        module _ {S : Cells} {next : Spot} (o : Found v n m (get_or cs x 0) S mid (Some next)) where
-          laid_there : Opened S mid (Some next) (open_up (has m) true (tree_at x ts))
-          laid_there = there l w o s.tree s.part s.sound
-
-          pub kept_next : {Q T : Cells} → Kept Q R at.cell → Kept R S mid.cell → Kept S T next.cell → Kept Q T at.cell
-          kept_next h j a = kept_before h (kept_trans j (opened_on laid_there) a)
-
-          pub room_behind : Room next (2 * weight v.sets.now behind + 1)
-          room_behind =
-              let t = tree_at x ts in
-              let g = (sound_at ts x goods (omega (arith, many s.tree s.part))).good in
-              let a = parts_weight v n behind (back (x + 1) ts) (behind_parts s.tree s.part) (sounds_back (x + 1) ts goods) in
-              let b : Room mid (2 * (size t + sizes (back (x + 1) ts))) = room_after (front x ts) _ _ wrote (front_goods x ts goods.good) (omega (arith, whole)) r in
-              opened_room_more (more t none) _ _ laid_there (keeps_up (has m) true t g) (omega (arith, good_size t g)) (omega arith) b
+        pub room_behind : Room next (2 * weight v.sets.now behind + 1)
+        room_behind =
+            let t = tree_at x ts in
+            let g = (sound_at ts x goods (omega (arith, many s.tree s.part))).good in
+            let a = parts_weight v n behind (back (x + 1) ts) (behind_parts s.tree s.part) (sounds_back (x + 1) ts goods) in
+            let b : Room mid (2 * (size t + sizes (back (x + 1) ts))) = room_after (front x ts) _ _ wrote (front_goods x ts goods.good) (omega (arith, whole)) r in
+            opened_room_more (more t none) _ _ laid_there (keeps_up (has m) true t g) (omega (arith, good_size t g)) (omega arith) b

@@ -1,11 +1,9 @@
-use Rattle.std.proofs.Common.{ℕ, List, sym, ap, ◌∙◌, arith}
+use Rattle.std.proofs.Common.{sym, ap, ◌∙◌, arith}
 use Rattle.trees.specs.Sorts.{code_of}
 use Rattle.trees.specs.declared.rows.Sort.TheVariants.{Any}
-use Rattle.trees.specs.declared.rows.View.{View}
 use Rattle.trees.proofs.Sorts.{same_sort, other_sort}
-use Rattle.changes.specs.Layouts.{Apart}
 use Rattle.changes.proofs.Layouts.{layout_many, layout_any, layout_stuck, layout_row}
-use Rattle.changes.proofs.Through.{from_parts}
+use Rattle.changes.proofs.Passing.{apart_lying}
 use Rattle.changes.proofs.opening.lay_out.Goals as goal
 
 pub of-requires : goal.of-requires
@@ -17,12 +15,12 @@ sequence-requires c = c.branches_of-cells.ensures.stand
 pub returns-then-len-gt1 : goal.returns-then-len-gt1
 returns-then-len-gt1 c = λ k b w t p s e.
     layout_many c.args.part.rows _ _ k b _ w _ t p s (rw c.as_slice.ensures.value (c.branches_of-cells.ensures.branches t p)) e (sym c.sort.ensures ∙ ap code_of (same_sort c.sort.result Any c.if-eq.ensures)) c.set_apart-layout.result
-    (from_parts (λ (v : View) (n : ℕ) (cs : List ℕ). Apart v.sets.now c.args.mask cs c.set_apart-layout.result) c.of.ensures c.set_apart-layout.ensures) (omega (arith, c.len.ensures.value, c.if-len-gt1.true))
+    (apart_lying c.of.ensures c.set_apart-layout.ensures) (omega (arith, c.len.ensures.value, c.if-len-gt1.true))
 
 pub returns-then-eq : goal.returns-then-eq
 returns-then-eq c = λ k b w t p s e.
     layout_any c.args.part.rows _ _ k b _ w _ t p s (rw c.as_slice.ensures.value (c.branches_of-cells.ensures.branches t p)) e (sym c.sort.ensures ∙ ap code_of (same_sort c.sort.result Any c.if-eq.ensures)) c.set_apart-layout.result
-    (from_parts (λ (v : View) (n : ℕ) (cs : List ℕ). Apart v.sets.now c.args.mask cs c.set_apart-layout.result) c.of.ensures c.set_apart-layout.ensures) (omega (arith, c.len.ensures.value, c.if-len-gt1.false))
+    (apart_lying c.of.ensures c.set_apart-layout.ensures) (omega (arith, c.len.ensures.value, c.if-len-gt1.false))
 
 pub returns-in_err-middle : goal.returns-in_err-middle
 returns-in_err-middle c = λ k b w t p s e.
