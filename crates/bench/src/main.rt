@@ -8,6 +8,7 @@ ghost use Rattle.std.specs.Iterator.{at_most};
 use answers::printed::Ending;
 use answers::seriating::seriate_text;
 use anyhow::bail;
+use grounds::notebook::Notebook;
 use grounds::outcome::Outcome;
 use grounds::whole::seriate;
 use seriation::building::build;
@@ -15,6 +16,7 @@ use seriation::built::Built;
 use std::alloc::{AllocError, Global};
 use std::time::Instant;
 use std::{env, fmt, fs};
+use trees::rows::Rows;
 
 // What a table gets.
 #[derive(Clone, Copy, Drop)]
@@ -76,19 +78,13 @@ impl<'a> Iterator for Tables<'a> {
 
 // Builds the tree of one table.
 fn build_one(file: &[u8]) -> Answer {
-    let mut parents = [0u8; 127];
-    let mut sorts = [0u8; 127];
-    let mut places = [0u8; 127];
-    let mut sets = [0u64; 127];
-    let mut kinds = [0u64; 128];
-    match build(
-        file,
-        &mut parents,
-        &mut sorts,
-        &mut places,
-        &mut sets,
-        &mut kinds,
-    ) {
+    let mut rows = Rows {
+        parents: &mut [0; 127],
+        sorts: &mut [0; 127],
+        places: &mut [0; 127],
+        sets: &mut [0; 127],
+    };
+    match build(file, &mut rows, &mut [0; 128]) {
         Ok(Built::Tree { .. }) => Answer::Tree,
         Ok(Built::NoOrder { .. }) => Answer::NoOrder,
         Err(_) => Answer::Refused,
@@ -97,27 +93,18 @@ fn build_one(file: &[u8]) -> Answer {
 
 // The whole call on one table.
 fn seriate_one(file: &[u8]) -> Answer {
-    let mut parents = [0u8; 127];
-    let mut sorts = [0u8; 127];
-    let mut places = [0u8; 127];
-    let mut sets = [0u64; 127];
-    let mut kinds = [0u64; 128];
-    let mut depths = [0u16; 4096];
-    let mut origins = [0u16; 4096];
-    let mut queue = [0u16; 4096];
-    let mut ring = [0u8; 8064];
-    match seriate(
-        file,
-        &mut parents,
-        &mut sorts,
-        &mut places,
-        &mut sets,
-        &mut kinds,
-        &mut depths,
-        &mut origins,
-        &mut queue,
-        &mut ring,
-    ) {
+    let mut rows = Rows {
+        parents: &mut [0; 127],
+        sorts: &mut [0; 127],
+        places: &mut [0; 127],
+        sets: &mut [0; 127],
+    };
+    let mut notes = Notebook {
+        depths: &mut [0; 4096],
+        parents: &mut [0; 4096],
+        queue: &mut [0; 4096],
+    };
+    match seriate(file, &mut rows, &mut [0; 128], &mut notes, &mut [0; 8064]) {
         Ok(Outcome::Tree { .. }) => Answer::Tree,
         Ok(Outcome::Ground { .. }) => Answer::NoOrder,
         Err(_) => Answer::Refused,

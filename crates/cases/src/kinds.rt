@@ -8,7 +8,7 @@ use std::alloc::{AllocError, Global};
 use std::fmt;
 use tables::orders::verify_order;
 use trees::allowed::allows;
-use trees::rows::View;
+use trees::rows::{Rows, View};
 
 // What is seen of a table and of the orders that fit.
 #[derive(Clone, Copy, Drop)]
@@ -62,28 +62,14 @@ fn none_fits(file: &[u8], kinds: &[Graves], orders: &[Vec<u8>]) -> bool {
 
 // What is seen of a table.
 fn look(file: &[u8], kinds: &[Graves], orders: &[Vec<u8>]) -> Seen {
-    let mut parents = [0u8; 13];
-    let mut sorts = [0u8; 13];
-    let mut places = [0u8; 13];
-    let mut sets = [0u64; 13];
-    let mut words = [0u64; 128];
-    match build(
-        file,
-        &mut parents,
-        &mut sorts,
-        &mut places,
-        &mut sets,
-        &mut words,
-    ) {
-        Ok(Built::Tree { count, .. }) => {
-            let view = View {
-                parents: &parents,
-                sorts: &sorts,
-                places: &places,
-                sets: &sets,
-            };
-            compare(view, count, file, kinds, orders)
-        }
+    let mut rows = Rows {
+        parents: &mut [0; 13],
+        sorts: &mut [0; 13],
+        places: &mut [0; 13],
+        sets: &mut [0; 13],
+    };
+    match build(file, &mut rows, &mut [0; 128]) {
+        Ok(Built::Tree { count, .. }) => compare(rows.view(), count, file, kinds, orders),
         Ok(Built::NoOrder { kind }) if none_fits(file, kinds, orders) => Seen::NoOrder(kind),
         Ok(Built::NoOrder { .. }) => Seen::Differs,
         Err(_) => Seen::Refused,

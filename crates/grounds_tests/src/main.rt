@@ -6,12 +6,14 @@
 
 use anyhow::bail;
 use grounds::checking::verify_ring;
+use grounds::notebook::Notebook;
 use grounds::outcome::Outcome;
 use grounds::verdict::NoClash;
 use grounds::whole::seriate;
 use hex::FromHexError;
 use std::alloc::Global;
 use tables::refusal::Refusal;
+use trees::rows::Rows;
 
 // The bytes that two hexadecimal digits each stand for; `-` stands for none.
 // Each test program has this line of its own: a library's function would need a contract and a test for it.
@@ -30,27 +32,19 @@ fn print_verdict(rt: &HostRuntime, answer: Result<Option<NoClash>, Refusal>) -> 
 
 // The whole call on a table, and the checker on the ring that it finds.
 fn print_whole(rt: &HostRuntime, file: &[u8]) -> anyhow::Result<()> {
-    let mut parents = [0u8; 127];
-    let mut sorts = [0u8; 127];
-    let mut places = [0u8; 127];
-    let mut sets = [0u64; 127];
-    let mut kinds = [0u64; 128];
-    let mut depths = [0u16; 4096];
-    let mut origins = [0u16; 4096];
-    let mut queue = [0u16; 4096];
-    let mut ring = [0u8; 8064];
-    match seriate(
-        file,
-        &mut parents,
-        &mut sorts,
-        &mut places,
-        &mut sets,
-        &mut kinds,
-        &mut depths,
-        &mut origins,
-        &mut queue,
-        &mut ring,
-    ) {
+    let mut rows = Rows {
+        parents: &mut [0; 127],
+        sorts: &mut [0; 127],
+        places: &mut [0; 127],
+        sets: &mut [0; 127],
+    };
+    let mut notes = Notebook {
+        depths: &mut [0; 4096],
+        parents: &mut [0; 4096],
+        queue: &mut [0; 4096],
+    };
+    let mut ring = [0; 8064];
+    match seriate(file, &mut rows, &mut [0; 128], &mut notes, &mut ring) {
         Ok(Outcome::Tree { .. }) => println!(rt; "tree")?,
         Ok(Outcome::Ground { pairs }) => print_verdict(rt, verify_ring(file, &ring[..2 * pairs]))?,
         Err(refusal) => println!(rt; "{refusal}")?,

@@ -11,7 +11,7 @@ use seriation::built::Built;
 use std::alloc::{AllocError, Global};
 use tables::orders::verify_order;
 use trees::allowed::allows;
-use trees::rows::View;
+use trees::rows::{Rows, View};
 
 // Whether the order fits the table.
 fn fits(file: &[u8], order: &[u8]) -> bool {
@@ -31,31 +31,17 @@ fn compare(view: View, count: usize, file: &[u8], orders: &[Vec<u8>]) -> Option<
 
 // The answer for the table as a word.
 fn print_table(rt: &HostRuntime, file: &[u8], orders: &[Vec<u8>]) -> anyhow::Result<()> {
-    let mut parents = [0u8; 13];
-    let mut sorts = [0u8; 13];
-    let mut places = [0u8; 13];
-    let mut sets = [0u64; 13];
-    let mut kinds = [0u64; 128];
-    match build(
-        file,
-        &mut parents,
-        &mut sorts,
-        &mut places,
-        &mut sets,
-        &mut kinds,
-    ) {
-        Ok(Built::Tree { count, .. }) => {
-            let view = View {
-                parents: &parents,
-                sorts: &sorts,
-                places: &places,
-                sets: &sets,
-            };
-            match compare(view, count, file, orders) {
-                Some(found) => print!(rt; " {found}")?,
-                None => print!(rt; " differs")?,
-            }
-        }
+    let mut rows = Rows {
+        parents: &mut [0; 13],
+        sorts: &mut [0; 13],
+        places: &mut [0; 13],
+        sets: &mut [0; 13],
+    };
+    match build(file, &mut rows, &mut [0; 128]) {
+        Ok(Built::Tree { count, .. }) => match compare(rows.view(), count, file, orders) {
+            Some(found) => print!(rt; " {found}")?,
+            None => print!(rt; " differs")?,
+        },
         Ok(Built::NoOrder { .. }) if orders.iter().any(|order| fits(file, order.as_slice())) => {
             print!(rt; " differs")?;
         }
