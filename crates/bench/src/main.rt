@@ -18,7 +18,7 @@ use std::time::Instant;
 use std::{env, fmt, fs};
 use trees::rows::Rows;
 
-// What a table gets.
+// What a table gets: three outcomes that are only counted.
 #[derive(Clone, Copy, Drop)]
 enum Answer {
     Tree,

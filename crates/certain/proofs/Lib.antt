@@ -1,4 +1,3 @@
-pub mod Sorts
 pub mod Places
 pub mod Middle
 pub mod Firm

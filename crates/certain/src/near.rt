@@ -61,12 +61,13 @@ pub fn nearest(tree: WholeTree, b: u8) -> Option<Neighbours>
     best
 }
 
-// Writes for each of the graves 0 to n - 1 the two nearest between which it is certain to lie, the one before it and the one behind it; 255 in both if there are none.
+// Writes for each of the graves 0 to n - 1 the two nearest between which it is certain to lie, the one before it and the one behind it; 255 in both if there are none: no grave has that number, and the lent bytes are all bytes.
 pub fn all_nearest(tree: WholeTree, n: u8, before: &mut [u8], behind: &mut [u8])
     requires room { (n ≤ length before.old) × (n ≤ length behind.old) }
     ensures told { (f : Finds) (t : Tree) → ShownBy tree.entry f t → (b : ℕ) → b < n → Written f (graves t) b (slice_index before.new b) (slice_index behind.new b) }
     ensures rest { (drop n before.new ≡ drop n before.old) × (drop n behind.new ≡ drop n behind.old) }
 {
+    // b is the grave itself.
     for b in 0..n {
         let found = nearest(tree, b).unwrap_or(Neighbours {
             before: 255,

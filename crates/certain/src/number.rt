@@ -33,6 +33,7 @@ pub fn orders(tree: WholeTree) -> Option<u64>
     ensures by_finds { (f : Finds) (t : Tree) → ShownBy tree.entry f t → Counted f result }
 {
     let mut all = 1u64;
+    // i is the number of the cell itself.
     for i in 0..tree.count {
         all = all.checked_mul(factor_at(tree, i))?;
     }

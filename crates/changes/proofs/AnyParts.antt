@@ -23,6 +23,7 @@ use Rattle.trees.proofs.Cells.{parts_len}
 use Rattle.trees.proofs.Finding.{had_standing}
 use Rattle.trees.proofs.Sets.{same_set, sound_kids}
 use Rattle.trees.proofs.Standing.{kids_size}
+use Rattle.trees.proofs.Allowing.{sizes_mixed}
 use Rattle.arrayvec.specs.ArrayVec.{ArrayVec, array_vec_len}
 use Rattle.changes.specs.declared.shares.Share.{Share}
 use Rattle.changes.specs.declared.shares.Share.TheVariants.{Empty, Partial, Full}
@@ -35,7 +36,6 @@ use Rattle.changes.specs.Written.{first_in, Headed, Room, Wrote}
 use Rattle.changes.proofs.Keeping.{Keeps, keeps_cut}
 use Rattle.changes.proofs.Laying.{room_less}
 use Rattle.changes.proofs.Layouts.{sel_sounds, picked_bunch}
-use Rattle.changes.proofs.Openings.{mixed_sizes}
 use Rattle.changes.proofs.Standing.{parts_weight, room_after}
 use Rattle.changes.proofs.Telling.{told, mask_has}
 use Rattle.changes.proofs.Writing.{wrote_plus, lies_wrote, lies_any}
@@ -146,7 +146,7 @@ module _ (whole_part : Subtree) {m : ℕ} {u : ArrayVec ℕ} {cs : List ℕ} (f 
     whole =
         let b = parts_weight v n ys (sel (has m) part ts) (partial_parts ys y s.tree s.part s.sound) (sel_sounds (has m) part ts sounds) in
         let c = parts_weight v n zs (sel (has m) full ts) (full_parts zs z s.tree s.part s.sound) (sel_sounds (has m) full ts sounds) in
-        let e = mixed_sizes (lined_mixed (has m) true ts) in
+        let e = sizes_mixed (lined_mixed (has m) true ts) in
         let j = sizes_plus (sel (has m) bare ts) (sel (has m) part ts +++ sel (has m) full ts) in
         let k = sizes_plus (sel (has m) part ts) (sel (has m) full ts) in
         omega (arith, kids_size (seen v) n i s.tree s.part s.sound (omega arith))

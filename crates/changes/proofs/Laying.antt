@@ -15,6 +15,7 @@ use Rattle.trees.proofs.Cells.{parts_len}
 use Rattle.trees.proofs.Allowing.{sizes_plus, goods_len}
 use Rattle.trees.proofs.Standing.{part_size}
 use Rattle.trees.proofs.Sets.{sound_kids, sounds_cut}
+use Rattle.trees.proofs.Allowing.{sizes_mixed}
 use Rattle.arrayvec.specs.ArrayVec.{ArrayVec}
 use Rattle.changes.specs.declared.shares.Share.TheVariants.{Partial}
 use Rattle.changes.specs.declared.draft.Spot.{Spot}
@@ -26,7 +27,7 @@ use Rattle.changes.specs.Shares.{share}
 use Rattle.changes.specs.Written.{Room, Wrote, not_laid, laid_at}
 use Rattle.changes.proofs.Keeping.{same_sizes, same_group, keeps_all}
 use Rattle.changes.proofs.Layouts.{mixed_sounds, grave_whole}
-use Rattle.changes.proofs.Openings.{opened_on, opened_plus, opened_stuck, opened_room, mixed_len, mixed_sizes, Found, FoundAll}
+use Rattle.changes.proofs.Openings.{opened_on, opened_plus, opened_stuck, opened_room, mixed_len, Found, FoundAll}
 use Rattle.changes.proofs.Standing.{parts_weight, room_after}
 use Rattle.changes.proofs.Telling.{mask_has, told, cell_tells}
 use Rattle.changes.proofs.Writing.{kept_trans, wrote_on}
@@ -61,7 +62,7 @@ module _ {v : View} {n : ℕ} {k : ℕ → Bool} {b : Bool} {t : Tree} {l : Layo
 
   pub lay_sizes : sizes y.firsts + (sizes y.middles + sizes y.lasts) ≡ sizes (kids t)
   lay_sizes =
-      let a = mixed_sizes y.all in
+      let a = sizes_mixed y.all in
       let c = sizes_plus y.firsts (y.middles +++ y.lasts) in
       let d = sizes_plus y.middles y.lasts in
       omega arith

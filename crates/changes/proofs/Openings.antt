@@ -1,11 +1,9 @@
 -- A tree laid open as a program does it: a group, one branch after the other, a group.
-use Rattle.std.proofs.Common.{◌≡◌, ℕ, zero, suc, ◌+◌, ◌*◌, ◌<◌, ◌≤◌, Bool, true, false, not, ◌⊎◌, List, length, get_or, Some, None, Option, refl, ap, ◌∙◌, subst, inl, inr, arith}
+use Rattle.std.proofs.Common.{◌≡◌, ℕ, zero, suc, ◌+◌, ◌*◌, ◌<◌, ◌≤◌, Bool, true, not, ◌⊎◌, List, length, get_or, Some, None, Option, refl, ap, ◌∙◌, subst, inl, inr, arith}
 use lib.Count.{ones}
 use Rattle.finds.specs.Trees.{Tree, Trees, none, more, Mixed, no_more, put, Put, first, after, Goods, len}
 use Rattle.finds.specs.Sets.{has}
 use Rattle.finds.proofs.Branches.{plus_none}
-use Rattle.finds.proofs.Counts.{mixed_count}
-use Rattle.finds.proofs.Size.{sizes_count}
 use Rattle.pqtree.specs.Status.{status}
 use Rattle.pqtree.specs.Opening.{Opening, stuck, laid, ◌⊞◌, open_up, open_all}
 use Rattle.pqtree.proofs.Opening.{open_all_plus, open_whole}
@@ -91,15 +89,6 @@ put_len (after p) = ap suc (put_len p)
 pub mixed_len : {ts us : Trees} → Mixed ts us → len us ≡ len ts
 mixed_len no_more = refl
 mixed_len (put m p) = put_len p ∙ ap suc (mixed_len m)
-
-pub mixed_sizes : {ts us : Trees} → Mixed ts us → sizes us ≡ sizes ts
-mixed_sizes {ts} {us} m =
-    let k : ℕ → Bool = λ g. true in
-    let x = sizes_count k us in
-    let y = sizes_count k ts in
-    let a = mixed_count k true m in
-    let b = mixed_count k false m in
-    omega arith
 
 -- The other branches have a grave each.
 pub others : (x : ℕ) (ts : Trees) → Goods ts → x < len ts → size (tree_at x ts) + len ts ≤ sizes ts + 1

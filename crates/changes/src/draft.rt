@@ -13,6 +13,7 @@ use trees::rows::Sort;
 use trees::subtree::Subtree;
 
 // The four rows of a tree under way: twice as many cells as a tree of 64 graves can have, so that a change that fails half-way stays within.
+// They are arrays and not lent, so that their length is known by their type, and four, since an array of cells took a quarter more instructions.
 #[derive(Clone, Copy, Drop)]
 pub struct Draft {
     pub parents: [u8; 256],
@@ -22,6 +23,7 @@ pub struct Draft {
 }
 
 // Where the next branch goes: the first free cell, the cell of the parent, and the place among its branches.
+// It is passed beside the draft, since each branch goes to a spot of its own in the same draft.
 #[derive(Clone, Copy)]
 pub struct Spot {
     pub cell: usize,
@@ -50,6 +52,7 @@ pub(crate) fn copy(part: Subtree, draft: &mut Draft, at: Spot) -> Spot
     let Subtree { rows, root, .. } = part;
     let end = part.end();
     put(draft, at, rows.sorts[root], rows.sets[root]);
+    // A cell is one place in four rows, so cells are counted.
     for x in root + 1..end {
         let parent = (rows.parents[x] as usize - root + at.cell) as u8;
         let here = Spot {

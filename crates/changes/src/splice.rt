@@ -49,6 +49,7 @@ fn behind(tree: WholeTree, end: usize, draft: &mut Draft, at: usize) -> usize
     ensures shifted { Shifted (seen tree.entry.rows) (drafted draft.new) end tree.entry.count at }
 {
     let WholeTree { rows, count } = tree;
+    // A cell is one place in four rows, so cells are counted.
     for x in end..count {
         let parent = rows.parents[x];
         let moved = if (parent as usize) < end {

@@ -51,6 +51,7 @@ fn write_orders(number: Option<u64>, out: &mut String) -> Result<(), AllocError>
 fn write_nearest(tree: WholeTree, graves: u8, out: &mut String) -> Result<(), AllocError>
     ensures { OnOk result (Lines tree.entry graves (string_bytes out.old) (string_bytes out.new)) }
 {
+    // b is the grave itself.
     for b in 0..graves {
         if let Some(Neighbours { before, behind }) = nearest(tree, b) {
             writeln!(out, "{b} between {before} and {behind}")?;

@@ -1,6 +1,7 @@
 // What building the tree of a table answers.
 
 // A tree, with the cell of its root and the count of its cells; or that no order fits, with the kind at which this was found.
+// Both are full answers and neither is a failure, so this is no Option and no Result.
 #[derive(Clone, Copy, PartialEq, Eq, Debug, Drop)]
 pub enum Built {
     Tree { root: usize, count: usize },

@@ -44,7 +44,7 @@ pub sizes_plus : (x y : Trees) → sizes (x +++ y) ≡ sizes x + sizes y
 sizes_plus none y = omega arith
 sizes_plus (more t x) y = let z = sizes_plus x y in omega arith
 
-sizes_mixed : {ts us : Trees} → Mixed ts us → sizes us ≡ sizes ts
+pub sizes_mixed : {ts us : Trees} → Mixed ts us → sizes us ≡ sizes ts
 sizes_mixed {ts} {us} m = sym (every_sizes us) ∙ mixed_count every true m ∙ every_sizes ts
 
 pub goods_len : (ts : Trees) → Goods ts → len ts ≤ sizes ts

@@ -1,14 +1,9 @@
 -- What is found on walks through a tree.
-use Rattle.std.specs.Prelude.{◌≡◌, ℕ, suc, ◌+◌, List, take}
+use Rattle.std.specs.Prelude.{◌≡◌, ℕ, suc, ◌+◌}
 use Rattle.finds.specs.Branches.{◌+++◌}
 use Rattle.finds.specs.Sets.{bit}
-use Rattle.finds.specs.Trees.{Tree, Trees, more, len}
-use Rattle.trees.specs.Cells.{all_nodes, set_of, kids, roots}
-
--- The cells of the branches ts of cell i stand in front of the list, and there are so many.
-pub record Listed (i many : ℕ) (into : List ℕ) (ts : Trees) : Type 0 where
-  pub all : many ≡ len ts
-  pub front : take many into ≡ roots (suc i) ts
+use Rattle.finds.specs.Trees.{Tree, Trees, more}
+use Rattle.trees.specs.Cells.{all_nodes, set_of, kids}
 
 -- Cell c is the root of that branch of t, the tree in cell i, which has the grave.
 pub record BranchWith (i grave : ℕ) (t : Tree) (c : ℕ) : Type 0 where

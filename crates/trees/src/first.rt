@@ -40,6 +40,7 @@ fn put_graves(n: u8, rows: &mut Rows) -> u64
     ensures same { SameSlices rows.old rows.new }
 {
     let mut all = 0;
+    // g is the grave itself.
     for g in 0..n {
         let cell = grave_cell(g);
         rows.put(g as usize + 1, cell);

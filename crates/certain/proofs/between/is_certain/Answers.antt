@@ -1,4 +1,4 @@
-use Rattle.std.proofs.Common.{◌≡◌, ℕ, Bool, false, ◌⊎◌, Decides, sym, ◌∙◌, subst, arith}
+use Rattle.std.proofs.Common.{◌≡◌, ℕ, Bool, false, ◌⊎◌, Decides, sym, ap, ◌∙◌, subst, arith}
 use Rattle.finds.specs.Finds.{Finds}
 use Rattle.finds.specs.Trees.{Tree}
 use Rattle.trees.specs.Cells.{kids, Sound}
@@ -11,7 +11,9 @@ use Rattle.certain.specs.Certain.{Between}
 use Rattle.certain.specs.Middle.{Middle}
 use Rattle.certain.specs.Shown.{ShownBy}
 use Rattle.certain.proofs.Descent.{Narrowed, narrowed_more, decided, decides_not, gone, kids_in, parting}
-use Rattle.certain.proofs.Sorts.{is_row, not_row}
+use Rattle.trees.proofs.Sorts.{same_sort, other_sort}
+use Rattle.trees.specs.Sorts.{code_of}
+use Rattle.trees.specs.declared.rows.Sort.TheVariants.{Row}
 use Rattle.certain.proofs.between.is_certain.Goals as goal
 
 -- One of the three is in no branch.
@@ -38,14 +40,14 @@ pub returns-then-eq : goal.returns-then-eq
 returns-then-eq c = decided _ c.loop-x.invariant (λ u p s.
     let j = c.in-Some-Some-Some in
     let k = parting (seen c.loop-x.part.rows) s p.0 (j.ensures.found u p) (j.ensures'.found u p) (j.ensures''.found u p) (not_one j.x.root j.y.root j.z.root c.then-x-y.either) in
-    ((λ e. k.1 (sym c.sort.ensures ∙ is_row c.sort.result c.if-eq.ensures) (c.is_amid.ensures.0 e)), λ m. c.is_amid.ensures.1 (k.0 m).1))
+    ((λ e. k.1 (sym c.sort.ensures ∙ ap code_of (same_sort c.sort.result Row c.if-eq.ensures)) (c.is_amid.ensures.0 e)), λ m. c.is_amid.ensures.1 (k.0 m).1))
 
 pub returns-else-eq : goal.returns-else-eq
 returns-else-eq c = subst (λ (r : Bool). (f : Finds) (t : Tree) → ShownBy c.args.tree f t → Decides r (Between f c.args.a c.args.b c.args.c)) (sym c.if-eq.false)
     (none_between c.loop-x.invariant (λ u p s m.
     let j = c.in-Some-Some-Some in
     let k = parting (seen c.loop-x.part.rows) s p.0 (j.ensures.found u p) (j.ensures'.found u p) (j.ensures''.found u p) (not_one j.x.root j.y.root j.z.root c.then-x-y.either) in
-    not_row c.sort.result c.if-eq.ensures (c.sort.ensures ∙ (k.0 m).0)))
+    other_sort c.sort.result Row c.if-eq.ensures (c.sort.ensures ∙ (k.0 m).0)))
 
 pub loop-x-smaller : goal.loop-x-smaller
 loop-x-smaller c =

@@ -8,7 +8,9 @@ use Rattle.trees.proofs.Finding.{had_standing}
 use Rattle.trees.proofs.Stepping.{beside}
 use Rattle.certain.specs.Near.{BranchAt}
 use Rattle.certain.proofs.Ends.{stands_at, branch_part, before_it, behind_it, none_before_it, none_behind_it}
-use Rattle.certain.proofs.Sorts.{is_row_ne, not_row_ne}
+use Rattle.trees.proofs.Sorts.{same_unless, other_if}
+use Rattle.trees.specs.Sorts.{code_of}
+use Rattle.trees.specs.declared.rows.Sort.TheVariants.{Row}
 use Rattle.certain.proofs.near.flanks.Goals as goal
 use Rattle.certain.proofs.near.flanks.Goals.{then-ne-via-then-ne, then-ne-via-else-ne+then-branch-part, then-ne-via-else-ne+else-branch-part+then-end}
 
@@ -20,7 +22,7 @@ pub returns-then-ne : goal.returns-then-ne
 returns-then-ne c = λ u p s w e x y.
     let R = seen c.args.part.rows in
     elim c.then-ne.branch [
-      | then-ne-via-then-ne k ↦ not_row_ne c.sort.result k.if-ne.ensures (c.sort.ensures ∙ e)
+      | then-ne-via-then-ne k ↦ other_if c.sort.result Row k.if-ne.ensures (c.sort.ensures ∙ e)
       | then-ne-via-else-ne+then-branch-part k ↦ none_before_it R c.args.part.count p s w k.if-branch-part.true x
       | then-ne-via-else-ne+else-branch-part+then-end k ↦ none_behind_it R c.args.part.count p s w _ _ (ended c.requires.within p s w c.end-end.ensures.end) (k.end.ensures.end u p) k.if-end.true y
     ]
@@ -54,7 +56,7 @@ returns c = λ u p s w.
     let a = before_it R n p s w (c.args.branch.root - 1) (let z = w.at in omega arith) c.if-branch-part.false in
     let k = behind_it R n p s w _ _ (ended c.requires.within p s w c.end-end.ensures.end) (c.end.ensures.end u p) c.if-end.false in
     let b = c.first_grave.ensures k.next k.part k.sound in (
-      sym c.sort.ensures ∙ is_row_ne c.sort.result c.if-ne.ensures,
+      sym c.sort.ensures ∙ ap code_of (same_unless c.sort.result Row c.if-ne.ensures),
       record {
         fore = a.0;
         rest = b.0 ++ all_graves k.others;
