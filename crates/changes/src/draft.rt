@@ -31,7 +31,7 @@ pub struct Spot {
     pub place: u8,
 }
 
-// Writes one cell.
+// Writes one cell. The sort comes as its number, as a copied cell has it.
 pub(crate) fn put(draft: &mut Draft, at: Spot, sort: u8, set: u64)
     requires { at.cell < 256 }
     ensures kept { Kept (drafted draft.old) (drafted draft.new) at.cell }
@@ -70,6 +70,7 @@ pub(crate) fn copy(part: Subtree, draft: &mut Draft, at: Spot) -> Spot
 }
 
 // Copies the parts to the spot, one behind the other; the spot behind them.
+// It is not laying them open with another step: of a draft that a closure has changed a proof knows nothing, and a copy cannot fail.
 pub(crate) fn copies(parts: Parts, draft: &mut Draft, at: Spot) -> Spot
     requires { Room at (2 * weight parts.rows.sets.now parts.cells.now) }
     ensures kept { Kept (drafted draft.old) (drafted draft.new) at.cell }

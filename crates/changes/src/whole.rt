@@ -43,6 +43,7 @@ fn ties_nothing(graves: u64, kind: u64) -> bool
 
 // Changes the tree in the first cells of the rows for one kind more, which is the set of the graves in which it lay: the rows hold the tree of those orders that do not tear the kind, in so many cells; or are as they were where there is none, and the answer is None.
 // A kind that lay in fewer than two graves of the tree changes nothing; graves that the tree does not have make no difference.
+// The count comes beside the rows: while they are written they are no whole tree.
 pub fn change(rows: &mut Rows, count: usize, kind: u64) -> Option<usize>
     requires { Holding (lent_rows rows.old) count }
     ensures changes { Changes (lent_rows rows.old) (lent_rows rows.new) count kind result }

@@ -56,6 +56,7 @@ fn empty<T: Copy>(row: &mut [T], from: usize, to: usize, nothing: T)
 }
 
 // The tree of all orders that fit the kinds, built up in the rows kind after kind; or that none fits.
+// The graves come beside the sets of the kinds, as the reader hands them on; the search for a ring has a struct of both, with methods of its own.
 pub fn grow(graves: u8, kinds: &[u64], rows: &mut Rows) -> Built
     requires some { 1 ≤ graves }
     requires few { graves ≤ 64 }

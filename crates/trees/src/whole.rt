@@ -28,6 +28,7 @@ impl<'a> WholeTree<'a> {
     ghost use Rattle.trees.specs.Wholes.{Found, Within};
 
     // The tree in the first `count` cells of the rows, if they hold a sound one.
+    // Where any rows are taken they come beside a count: only here it becomes known that the two belong together.
     pub fn find(rows: View<'a>, count: usize) -> Option<WholeTree<'a>>
         ensures { MatchOption result (TreeIn rows.entry count → ⊥) (Found rows.entry count) }
     {
