@@ -117,7 +117,7 @@ impl<'a> Parts<'a> {
     }
 }
 
-// Which of the cells is the first whose set has something of the mask.
+// Which of the cells is the first whose set has something of the mask: a function of its own, since what a closure needs to index must be required of the function around it.
 fn first_not_empty(sets: &[u64], cells: &[u8], mask: u64) -> Option<usize>
     requires { All (λ c. c < length sets.now) cells.now }
     ensures { FirstWith sets.now mask cells.now result }

@@ -39,6 +39,7 @@ impl Search<'_> {
         ensures closed { Closed (finds_in_sets self.old.sets) self.new.queue.now result.left result.right }
         ensures same { SameCells self.old self.new }
     {
+        // The queue is written from both ends, so places are counted.
         let mut p = fork.left;
         let mut q = fork.right;
         let mut left = 0;

@@ -12,6 +12,7 @@ pub struct Fork {
 }
 
 // A search in a table: a cell of each sort for each pair, and how many pairs stand in the queue.
+// It holds the parts of a notebook's slices and no notebook: of a struct in a struct a proof does not know in the end what its slices hold.
 #[derive(Drop)]
 pub struct Search<'a> {
     pub sets: Sets<'a>,
@@ -81,6 +82,7 @@ impl Search<'_> {
     {
         let sets = self.sets;
         let n = sets.graves as usize;
+        // The loops stand in one function, since a fork leaves all of them by the label.
         let mut found = None;
         let mut head = 0;
         'search: for seed in 0..n * n {

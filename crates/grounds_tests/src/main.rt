@@ -1,7 +1,7 @@
 // Runs cases from stdin, one to a line, and prints what the checker of rings and the whole call answer.
 //   ring HEX HEX    the file of a table, and the bytes of a ring
 //   whole HEX       the file of a table: `tree`, `ground` if the ring that was found is accepted by the checker, else what went wrong
-// crates/cases runs these cases too, and prints the answers by itself: no library can share that, since no contract speaks of what is printed.
+// crates/cases runs these cases too, and prints the answers by itself: no library can share that, since no contract speaks of what is printed, and lent memory stands in the frame of its caller.
 #![tactic(auto)]
 
 use anyhow::bail;

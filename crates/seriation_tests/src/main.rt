@@ -1,7 +1,7 @@
 // Runs tables from stdin, one to a line as hexadecimal digits, and compares the tree with a search through all orders, kind by kind.
 // For each number of first kinds it prints how many orders the tree allows, once it is seen that these are just the orders that fit;
 // or `none K` where no order fits and K is the kind at which this was found.
-// crates/cases runs these tables too, and prints the answers by itself: no library can share that, since no contract speaks of what is printed.
+// crates/cases runs these tables too, and prints the answers by itself: no library can share that, since no contract speaks of what is printed, and lent memory stands in the frame of its caller.
 #![tactic(auto)]
 
 use anyhow::bail;

@@ -23,7 +23,7 @@ pub fn allows(rows: View, count: usize, row: &[u8]) -> Option<bool>
     Some(part_allows(tree, row))
 }
 
-// Whether the part allows the row, which is as long as the part has graves.
+// Whether the part allows the row, which is as long as the part has graves: it is a fact of the two, and each call has two others.
 #[cycle(allowing)]
 pub fn part_allows(part: Subtree, row: &[u8]) -> bool
     requires { length row.now ≡ count_ones (set_at part) }
@@ -69,6 +69,7 @@ fn row_allows(part: Subtree, row: &[u8]) -> bool
     requires long { length row.now ≡ count_ones (set_at part) }
     ensures { (t : Tree) → Is part.entry t → Sound t → Decides result (Allows t row.now) }
 {
+    // The first branch stands in the cell behind the root.
     let back = !contains(part.rows.sets[part.root + 1], row[0]);
     let mut at = 0;
     for branch in part.branches() {

@@ -82,6 +82,7 @@ impl Cells<'_> {
         requires sort { (1 ≤ (seen self.rows).sort i) × ((seen self.rows).sort i ≤ 2) × (least ≡ (seen self.rows).sort i + 1) }
         ensures { Checks (seen self.entry.rows) self.entry.count i result }
     {
+        // Cells are counted: they are no branches of a tree before they have been checked.
         let mut at = i + 1;
         let mut place = 0;
         let mut graves = 0;
