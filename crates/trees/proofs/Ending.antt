@@ -1,10 +1,13 @@
 -- Where a part ends, and walks over its branches from root to root.
-use Rattle.std.proofs.Common.{◌≡◌, ℕ, ◌+◌, ◌-◌, ◌<◌, ◌≤◌, List, get_or, take, drop, length, sym, refl, ap, ◌∙◌, subst, inl, inr, add-one, arith}
+use Rattle.std.proofs.Common.{◌≡◌, ℕ, ◌+◌, ◌-◌, ◌<◌, ◌≤◌, Option, Some, None, List, get_or, take, drop, length, sym, refl, ap, ◌∙◌, subst, inl, inr, add-one, arith}
 use Rattle.std.proofs.lemmas.List.{get_or-take, get_or-drop, length-take, length-drop}
 use Rattle.finds.specs.Trees.{Tree, Trees, none, more}
 use Rattle.trees.specs.Cells.{nodes, all_nodes, kids, Part, Parts, roots, Sounds}
 use Rattle.trees.specs.Rows.{seen, Long, Row, Stands}
+use Rattle.trees.specs.Subtrees.{Is, Begins, Yields, Lists}
 use Rattle.trees.specs.declared.rows.View.{View}
+use Rattle.trees.specs.declared.subtree.Branches.{Branches}
+use Rattle.trees.specs.declared.subtree.Subtree.{Subtree}
 use Rattle.trees.proofs.Cells.{some_nodes, kids_nodes, kids_parts, end_is}
 use Rattle.trees.proofs.Sets.{sound_kids, sounds_first, sounds_rest}
 
@@ -80,3 +83,32 @@ kids_row {v} {n} {i} s e f =
       sounds = sound_kids s.tree s.sound;
       end = omega arith;
     }
+
+-- ---- what a walk yields
+
+-- A walk from cell i up to the end of trees that lie one after the other from there on yields just their roots.
+pub lists : (ts : Trees) {v : View} {n i e : ℕ} → Parts (seen v) n (roots i ts) ts → e ≡ i + all_nodes ts → (b : Branches) → b.rows ≡ v → b.count ≡ n → b.at ≡ i → b.end ≡ e → Lists b (roots i ts)
+lists none {v} {n} {i} {e} p h b rs k a d = go
+  where
+    go : (o : Option Subtree) (b' : Branches) → Yields b o b' → o ≡ None
+    go None b' y = refl
+    go (Some s) b' y = absurd (omega (arith, y.some))
+lists (more t ts) {v} {n} {i} {e} p h b rs k a d = go (λ b'. lists ts p.1 (omega arith) b')
+  where
+    go : ((b' : Branches) → b'.rows ≡ v → b'.count ≡ n → b'.at ≡ i + nodes t → b'.end ≡ e → Lists b' (roots (i + nodes t) ts)) →
+        (o : Option Subtree) (b' : Branches) → Yields b o b' → (s : Subtree) × (o ≡ Some s) × (s.root ≡ i) × Lists b' (roots (i + nodes t) ts)
+    go f None b' y = absurd (let z = some_nodes t in omega (arith, y.0))
+    go f (Some s) b' y =
+        let at : s.root ≡ i = y.root ∙ a in
+        let it : Is s t = subst (λ (x : View). Part (seen x) s.count s.root t) (sym (y.rows ∙ rs)) (subst (λ (m : ℕ). Part (seen v) m s.root t) (sym (y.count ∙ k)) (subst (λ (c : ℕ). Part (seen v) n c t) (sym at) p.0)) in
+        (s, refl, at, f b' (y.rows_after ∙ rs) (y.count_after ∙ k) (y.at_after t it ∙ ap (λ (x : ℕ). x + nodes t) at) (y.end_after ∙ d))
+
+-- A walk from the cell behind the root of a part up to its end goes over all its branches.
+pub begins : (s : Subtree) (b : Branches) → b.rows ≡ s.rows → b.count ≡ s.count → b.at ≡ s.root + 1 → ((t : Tree) → Is s t → b.end ≡ s.root + nodes t) → Begins s b
+begins s b rs k a d = record {
+  rows = rs;
+  count = k;
+  at = a;
+  end = d;
+  all = λ t p. lists (kids t) (kids_parts (seen s.rows) s.count s.root t p) (omega (arith, kids_nodes t)) b rs k (a ∙ add-one s.root) (d t p);
+}

@@ -4,9 +4,7 @@ use Rattle.finds.specs.Branches.{◌+++◌}
 use Rattle.finds.specs.Trees.{Tree, Trees, none, more}
 use Rattle.finds.proofs.Branches.{plus_assoc, plus_none}
 use Rattle.trees.specs.Cells.{nodes, all_nodes, kids, Cells, Part, Sound, Sounds}
-use Rattle.trees.specs.Rows.{seen, Stands}
 use Rattle.trees.specs.Walks.{BranchWith}
-use Rattle.trees.specs.declared.rows.View.{View}
 use Rattle.trees.proofs.Cells.{some_nodes, kids_nodes, nodes_plus, part_at}
 use Rattle.trees.proofs.Sets.{sound_kids, sounds_cut, sounds_first}
 
@@ -67,19 +65,6 @@ walk_end {t = t} {P = P} w h l = go w.rest refl
 -- A branch of a sound tree is sound, so the walk may go on from it.
 pub next_sound : {R : Cells} {n i c : ℕ} {t : Tree} {P : Trees → Trees → Type 0} → Sound t → (x : Next R n i c t P) → Sound x.it
 next_sound {t = t} s x = sounds_first x.it x.rest (sounds_cut x.done (more x.it x.rest) (subst Sounds x.is (sound_kids t s))).1
-
-pub next_stands : {v : View} {n i c : ℕ} {P : Trees → Trees → Type 0} → (s : Stands v n i) → Next (seen v) n i c s.tree P → Stands v n c
-next_stands s x = record {
-  long = s.long;
-  few = s.few;
-  below = omega (arith, x.part.1, some_nodes x.it);
-  tree = x.it;
-  part = x.part;
-  sound = next_sound s.sound x;
-}
-
-pub walk_stands : {v : View} {n i c e : ℕ} {P : Tree → Trees → Trees → Type 0} → Stands v n i → Walked (seen v) n i c P → ((t : Tree) → Part (seen v) n i t → e ≡ i + nodes t) → c < e → Stands v n c
-walk_stands s w f l = next_stands s (walk_next s.part (w s.tree s.part) (f s.tree s.part) l)
 
 -- The branch that has a grave is a part, and sound.
 pub with_part : (R : Cells) (n : ℕ) {i g c : ℕ} {t : Tree} → (b : BranchWith i g t c) → Part R n i t → Part R n c b.it

@@ -1,7 +1,7 @@
 -- Parts of a tree in lent rows, and walks over their branches.
-use Rattle.std.specs.Prelude.{◌≡◌, ℕ, ◌+◌, ◌<◌, ◌≤◌, Option, Some, None}
+use Rattle.std.specs.Prelude.{◌≡◌, ℕ, suc, ◌+◌, ◌<◌, ◌≤◌, Option, Some, None, List, [], ◌∷◌}
 use Rattle.finds.specs.Trees.{Tree}
-use Rattle.trees.specs.Cells.{nodes, Part}
+use Rattle.trees.specs.Cells.{nodes, kids, roots, Part}
 use Rattle.trees.specs.Rows.{seen}
 use Rattle.trees.specs.declared.subtree.Branches.{Branches}
 use Rattle.trees.specs.declared.subtree.Subtree.{Subtree}
@@ -19,13 +19,6 @@ pub record Within (s b : Subtree) : Type 0 where
   pub rows : b.rows ≡ s.rows
   pub count : b.count ≡ s.count
 
--- A walk over all branches of the part.
-pub record Begins (s : Subtree) (b : Branches) : Type 0 where
-  pub rows : b.rows ≡ s.rows
-  pub count : b.count ≡ s.count
-  pub at : b.at ≡ s.root + 1
-  pub end : (t : Tree) → Is s t → b.end ≡ s.root + nodes t
-
 -- A walk goes on by one branch: the next cell is its root, and the walk is then behind it.
 pub record Steps (b : Branches) (s : Subtree) (b' : Branches) : Type 0 where
   pub some : b.at < b.end
@@ -41,3 +34,16 @@ pub record Steps (b : Branches) (s : Subtree) (b' : Branches) : Type 0 where
 abbrev pub Yields : Branches → Option Subtree → Branches → Type 0
 Yields b None b' = (b.end ≤ b.at) × (b' ≡ b)
 Yields b (Some s) b' = Steps b s b'
+
+-- The walk yields the parts with their roots in these cells, one after the other, and then nothing.
+abbrev pub Lists : Branches → List ℕ → Type 0
+Lists b [] = (o : Option Subtree) (b' : Branches) → Yields b o b' → o ≡ None
+Lists b (c ∷ cs) = (o : Option Subtree) (b' : Branches) → Yields b o b' → (s : Subtree) × (o ≡ Some s) × (s.root ≡ c) × Lists b' cs
+
+-- A walk over all branches of the part, from left to right.
+pub record Begins (s : Subtree) (b : Branches) : Type 0 where
+  pub rows : b.rows ≡ s.rows
+  pub count : b.count ≡ s.count
+  pub at : b.at ≡ s.root + 1
+  pub end : (t : Tree) → Is s t → b.end ≡ s.root + nodes t
+  pub all : (t : Tree) → Is s t → Lists b (roots (suc s.root) (kids t))
