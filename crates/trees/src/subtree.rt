@@ -10,6 +10,7 @@ use crate::rows::{Sort, View};
 use tables::sets::contains;
 
 // The part of a tree in lent rows that has its root in this cell, of so many cells.
+// It has rows and a count, and no whole tree: less is asked of the cells, and a promise names the rows in one step.
 #[derive(Clone, Copy)]
 pub struct Subtree<'a> {
     pub rows: View<'a>,
