@@ -76,7 +76,7 @@ impl<'a> Iterator for Tables<'a> {
     }
 }
 
-// Builds the tree of one table.
+// Builds the tree of one table, in memory of this frame.
 fn build_one(file: &[u8]) -> Answer {
     let mut rows = Rows {
         parents: &mut [0; 127],
@@ -91,7 +91,7 @@ fn build_one(file: &[u8]) -> Answer {
     }
 }
 
-// The whole call on one table.
+// The whole call on one table, in memory of this frame.
 fn seriate_one(file: &[u8]) -> Answer {
     let mut rows = Rows {
         parents: &mut [0; 127],
