@@ -23,14 +23,6 @@ pub decided_as : (b : Bool) {P Q : Type 0} → (P → Q) → (Q → P) → Decid
 decided_as true to from h = to h
 decided_as false to from h = λ q. h (from q)
 
-pub decided_true : (b : Bool) (P : Type 0) → Decided b P → b ≡ true → P
-decided_true true P h e = h
-decided_true false P h e = absurd (false≢true e)
-
-pub decided_false : (b : Bool) (P : Type 0) → Decided b P → b ≡ false → P → ⊥
-decided_false true P h e = absurd (true≢false e)
-decided_false false P h e = h
-
 -- A pair that is not ill is a pair of two different graves of the table.
 pub well_proper : (f : Finds) (p : Pair) → (Ill f.graves p → ⊥) → Proper f p
 well_proper f p h = (below p.first (λ l. h (inr (inl l))), below p.second (λ l. h (inr (inr l))), λ e. h (inl e))

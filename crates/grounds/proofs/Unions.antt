@@ -1,10 +1,10 @@
 -- Unions of sets of graves: which graves they have, and the union of all kinds with a grave and without another.
 use Rattle.std.proofs.Common.{◌≡◌, ℕ, zero, suc, ◌/◌, ◌%◌, ◌^◌, ◌<◌, ◌≤◌, max, Bool, true, false, ◌||◌, ◌&&◌, not, cond, bit_or, eqb, ◌⊎◌, List, [], ◌∷◌, length, get_or, sym, refl, ap, ◌∙◌, subst, inl, inr, ⊎_elim, pow-suc, true≢false, arith, ne_eqb}
 use mathlib.Core.Bool.{false≢true}
-use lib.Bits.{or_step}
 use Rattle.std.proofs.lemmas.Bool.{and_parts, and_from, not-true, or_cases, or_left, or_right}
 use Rattle.std.specs.List.{fold}
 use Rattle.finds.specs.Sets.{bit, has}
+use Rattle.finds.proofs.Bits.{bit_low, bit_zero, bit_of_or}
 use Rattle.grounds.specs.Checking.{Decided}
 use Rattle.finds.specs.Finds.{Finds}
 use Rattle.clashes.specs.Rings.{Parts}
@@ -14,18 +14,6 @@ use Rattle.grounds.proofs.KindSets.{Parting, in_sets, parts_in, parting_of}
 use Rattle.grounds.proofs.Clashing.{decided_no, decided_as}
 
 -- ---- bits
-
-bit_max : (g s t : ℕ) → bit g (bit_or s t) ≡ max (bit g s) (bit g t)
-bit_max zero s t = let z = or_step s t in omega arith
-bit_max (suc g) s t = let z = or_step s t in ap (bit g) (let h : bit_or s t / 2 ≡ bit_or (s / 2) (t / 2) = omega arith in h) ∙ bit_max g (s / 2) (t / 2)
-
-bit_zero : (g : ℕ) → bit g 0 ≡ 0
-bit_zero zero = refl
-bit_zero (suc g) = bit_zero g
-
-bit_few : (g s : ℕ) → bit g s ≤ 1
-bit_few zero s = omega arith
-bit_few (suc g) s = bit_few g (s / 2)
 
 has_none : (g : ℕ) → has 0 g ≡ false
 has_none g = ap (λ (x : ℕ). eqb x 1) (bit_zero g)
@@ -41,7 +29,7 @@ has_one (suc a) (suc g) =
 
 -- The union of two sets has what either has.
 has_or : (s t g : ℕ) → has (bit_or s t) g ≡ (has s g || has t g)
-has_or s t g = ap (λ (x : ℕ). eqb x 1) (bit_max g s t) ∙ go (bit g s) (bit g t) (bit_few g s) (bit_few g t)
+has_or s t g = ap (λ (x : ℕ). eqb x 1) (bit_of_or g s t) ∙ go (bit g s) (bit g t) (bit_low g s) (bit_low g t)
   where
     go : (x y : ℕ) → x ≤ 1 → y ≤ 1 → eqb (max x y) 1 ≡ (eqb x 1 || eqb y 1)
     go zero zero h k = refl
