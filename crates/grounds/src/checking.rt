@@ -1,6 +1,5 @@
 // The checker of a ring from elsewhere.
-ghost use Rattle.std.specs.Prelude.{◌≡◌, ◌/◌, ◌<◌, length, slice_index, MatchOption};
-ghost use Rattle.clashes.specs.Colours.{pair};
+ghost use Rattle.std.specs.Prelude.{◌≡◌, ◌/◌, ◌<◌, length, MatchOption};
 ghost use Rattle.clashes.specs.Rings.{Joint, Parts, after};
 ghost use Rattle.grounds.specs.Checking.{Decided, finds_in_table, said, pairs_of, Ill, WellBelow, FirstIll, GoodRing, Judged, RingAnswer};
 ghost use Rattle.finds.specs.Finds.{Clash};
@@ -12,14 +11,6 @@ use tables::reading::read;
 use tables::refusal::Refusal;
 use tables::sets::contains;
 use tables::stored::Table;
-
-// The pair of two bytes.
-fn pair_of(bytes: [u8; 2]) -> Pair
-    ensures { said result ≡ pair (slice_index bytes 0) (slice_index bytes 1) }
-{
-    let [first, second] = bytes;
-    Pair { first, second }
-}
 
 // Whether the pair is of a grave with itself, or with one that is not there.
 fn ill(pair: Pair, n: u8) -> bool
@@ -33,7 +24,7 @@ fn bad_pair(ring: &[u8], n: u8) -> Option<usize>
     ensures { MatchOption result (WellBelow n ring.now (length ring.now / 2)) (FirstIll n ring.now) }
 {
     let (pairs, _) = ring.as_chunks::<2>();
-    pairs.iter().position(|pair| ill(pair_of(*pair), n))
+    pairs.iter().position(|pair| ill(Pair::from(*pair), n))
 }
 
 // Whether some kind lay in a and in c and not in b.
@@ -76,7 +67,7 @@ fn judge(table: Table, ring: &[u8]) -> Option<NoClash>
     let (pairs, _) = ring.as_chunks::<2>();
     for (place, this) in pairs.iter().enumerate() {
         let next = pairs[place_after(place, pairs.len())];
-        if !joint(table, pair_of(*this), pair_of(next)) {
+        if !joint(table, Pair::from(*this), Pair::from(next)) {
             return Some(NoClash { pair: place });
         }
     }
