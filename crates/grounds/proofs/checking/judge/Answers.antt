@@ -1,5 +1,6 @@
-use Rattle.std.proofs.Common.{rules, arith, below_more}
+use Rattle.std.proofs.Common.{refl, rules, arith, below_more}
 use Rattle.clashes.specs.Rings.{Closes}
+use Rattle.trees.proofs.Deciding.{denied}
 use Rattle.grounds.specs.Checking.{finds_in_table, pairs_of, said}
 use Rattle.grounds.proofs.RingBytes.{pairs_length}
 use Rattle.grounds.proofs.RingChunks.{TwoPairs, both_well, both_held}
@@ -17,12 +18,12 @@ joint-requires c = record { well = both_well (at_hand (goal.at.joint-requires c)
 pub returns-then-not-joint : goal.returns-then-not-joint
 returns-then-not-joint c =
     let z = pairs_length c.args.ring.now in let f = finds_in_table c.args.table in
-    (omega arith, (λ h. c.if-not-joint.ensures ((both_held (at_hand (goal.at.returns-then-not-joint c).After-from-in-loop-place) f).1 h)), c.loop-place.invariant)
+    (omega arith, (λ h. denied c.if-not-joint.ensures ((both_held (at_hand (goal.at.returns-then-not-joint c).After-from-in-loop-place) f).1 h)), c.loop-place.invariant)
 
 pub loop-place-preserved : goal.loop-place-preserved
 loop-place-preserved c =
     let f = finds_in_table c.args.table in
-    below_more _ _ c.loop-place.invariant ((both_held (at_hand (goal.at.loop-place-preserved c).After-from-in-loop-place) f).0 c.if-not-joint.ensures)
+    below_more _ _ c.loop-place.invariant ((both_held (at_hand (goal.at.loop-place-preserved c).After-from-in-loop-place) f).0 (c.if-not-joint.ensures.0 refl))
 
 pub returns : goal.returns
 returns c =
