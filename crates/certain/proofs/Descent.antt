@@ -1,6 +1,5 @@
 -- From a tree to the branch that has b: what is in the middle there, and what lies on either side of it.
-use Rattle.std.proofs.Common.{◌≡◌, ℕ, suc, ◌+◌, ◌<◌, ◌≤◌, Bool, true, false, eqb, ◌⊎◌, Decides, sym, refl, ap, ◌∙◌, subst, inl, inr, ⊎_elim, arith}
-use mathlib.Core.Bool.{false≢true}
+use Rattle.std.proofs.Common.{◌≡◌, ℕ, suc, ◌+◌, ◌<◌, ◌≤◌, Bool, true, eqb, ◌⊎◌, Decides, sym, refl, ap, ◌∙◌, subst, inl, inr, ⊎_elim, arith}
 use Rattle.finds.specs.Branches.{◌+++◌}
 use Rattle.finds.specs.Counts.{count_t, count_ts}
 use Rattle.finds.specs.Finds.{Finds}
@@ -12,10 +11,8 @@ use Rattle.trees.specs.Cells.{nodes, all_nodes, sets_of, kids, Cells, Body, Hold
 use Rattle.trees.specs.Rows.{seen}
 use Rattle.trees.specs.Subtrees.{Is, Within}
 use Rattle.trees.specs.Walks.{BranchWith}
-use Rattle.trees.specs.Wholes.{Within as Whole}
 use Rattle.trees.specs.declared.subtree.Subtree.{Subtree}
 use Rattle.trees.specs.declared.whole.WholeTree.{WholeTree}
-use Rattle.trees.proofs.Roots.{root_is}
 use Rattle.trees.proofs.Sets.{sound_kids, bit_set, bit_sets}
 use Rattle.trees.proofs.Stepping.{branch_is}
 use Rattle.certain.specs.Certain.{Between}
@@ -154,9 +151,6 @@ gone g ts e i = let z = bit_sets g ts in omega arith
 pub record Narrowed (a b c : ℕ) (w : WholeTree) (s : Subtree) : Type 0 where
   pub come : (t : Tree) → Holds (seen w.rows) w.count t → Sound t → Come s (λ u. (Middle a b c t → Middle a b c u) × (Middle a b c u → Middle a b c t))
 
-pub narrowed_start : {w : WholeTree} {s : Subtree} (a b c : ℕ) → Whole w s → Narrowed a b c w s
-narrowed_start a b c i = record { come = λ t h o. record { it = t; part = root_is i t h; sound = o; so = ((λ m. m), λ m. m) } }
-
 -- All three are in one branch.
 pub narrowed_more : {a b c d e : ℕ} {w : WholeTree} {s x : Subtree} → Narrowed a b c w s → ((u : Tree) → Is s u → BranchWith s.root a u d) →
     Within s x → ((u : Tree) → Is s u → BranchWith s.root b u x.root) → ((u : Tree) → Is s u → BranchWith s.root c u e) → d ≡ x.root → x.root ≡ e → Narrowed a b c w x
@@ -181,6 +175,3 @@ decided {a} {b} {c} r k d f t s =
     let e = between_middle f t s.exact a b c in
     let m = d o.it o.part o.sound in
     ((λ z. e.1 (o.so.1 (m.0 z))), λ z. m.1 (o.so.0 (e.0 z)))
-
-pub decides_not : {P : Type 0} → (P → ⊥) → Decides false P
-decides_not n = ((λ z. absurd (false≢true z)), λ p. absurd (n p))

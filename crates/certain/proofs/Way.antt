@@ -8,10 +8,8 @@ use Rattle.trees.specs.Cells.{sets_of, kids, Holds, Sound}
 use Rattle.trees.specs.Rows.{seen}
 use Rattle.trees.specs.Subtrees.{Is, Within}
 use Rattle.trees.specs.Walks.{BranchWith}
-use Rattle.trees.specs.Wholes.{Within as Whole}
 use Rattle.trees.specs.declared.subtree.Subtree.{Subtree}
 use Rattle.trees.specs.declared.whole.WholeTree.{WholeTree}
-use Rattle.trees.proofs.Roots.{root_is}
 use Rattle.trees.proofs.Sets.{sound_kids}
 use Rattle.trees.proofs.Stepping.{branch_is}
 use Rattle.trees.proofs.Walking.{with_sound}
@@ -24,13 +22,6 @@ use Rattle.certain.proofs.Level.{Right, level, right_told}
 -- What is right for the part, or else what is told so far, is right for the whole tree.
 pub record SoFar (b : ℕ) (w : WholeTree) (s : Subtree) (best : Option Neighbours) : Type 0 where
   pub come : (t : Tree) → Holds (seen w.rows) w.count t → Sound t → Come s (λ u. (r : Option Neighbours) → Right u b r → Right t b (option_or r best))
-
-pub so_far_start : {w : WholeTree} {s : Subtree} (b : ℕ) → Whole w s → SoFar b w s None
-so_far_start b i = record { come = λ t h o. record { it = t; part = root_is i t h; sound = o; so = same t } }
-  where
-    same : (t : Tree) (r : Option Neighbours) → Right t b r → Right t b (option_or r None)
-    same t (Some p) k = k
-    same t None k = k
 
 -- A branch that has a grave is a branch.
 abbrev pub branch_at : {i g c : ℕ} {u : Tree} → BranchWith i g u c → BranchAt i c u

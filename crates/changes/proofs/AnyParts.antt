@@ -7,7 +7,7 @@ use Rattle.finds.specs.Counts.{count_t, count_ts}
 use Rattle.finds.specs.Sets.{has}
 use Rattle.finds.proofs.Branches.{goods_plus}
 use Rattle.finds.proofs.Counts.{count_ts_plus, mixed_count}
-use Rattle.pqtree.specs.Status.{bare, part, full, sel, heavy}
+use Rattle.pqtree.specs.Status.{Status, bare, part, full, sel, heavy}
 use Rattle.pqtree.specs.Change.{Outcome, torn, made, as_row, row_cut, cut_middle, join}
 use Rattle.pqtree.specs.Opening.{Opening, stuck, laid, group}
 use Rattle.pqtree.proofs.Status.{heavy_len}
@@ -124,14 +124,17 @@ module _ (whole_part : Subtree) {m : ℕ} {u : ArrayVec ℕ} {cs : List ℕ} (f 
   sounds : Sounds ts
   sounds = sound_kids s.tree s.sound
 
+  apart_stand : (q : Status) (xs : List ℕ) → Parts (seen v) n xs (sel (has m) q ts) → AllStand v n xs
+  apart_stand q xs p = record { long = s.long; few = s.few; trees = sel (has m) q ts; parts = p; sound = sel_sounds (has m) q ts sounds }
+
   pub bare_stand : (xs : List ℕ) → xs ≡ l.first.items → AllStand v n xs
-  bare_stand xs e = record { long = s.long; few = s.few; trees = sel (has m) bare ts; parts = bare_parts xs e s.tree s.part s.sound; sound = sel_sounds (has m) bare ts sounds }
+  bare_stand xs e = apart_stand bare xs (bare_parts xs e s.tree s.part s.sound)
 
   pub partial_stand : (xs : List ℕ) → xs ≡ l.middle.items → AllStand v n xs
-  partial_stand xs e = record { long = s.long; few = s.few; trees = sel (has m) part ts; parts = partial_parts xs e s.tree s.part s.sound; sound = sel_sounds (has m) part ts sounds }
+  partial_stand xs e = apart_stand part xs (partial_parts xs e s.tree s.part s.sound)
 
   pub full_stand : (xs : List ℕ) → xs ≡ l.last.items → AllStand v n xs
-  full_stand xs e = record { long = s.long; few = s.few; trees = sel (has m) full ts; parts = full_parts xs e s.tree s.part s.sound; sound = sel_sounds (has m) full ts sounds }
+  full_stand xs e = apart_stand full xs (full_parts xs e s.tree s.part s.sound)
 
   module _ (d : (seen v).sort i ≡ 1) (h : (t : Tree) → Is whole_part t → 2 ≤ heavy (has m) (kids t)) (ys zs : List ℕ) (y : ys ≡ l.middle.items) (z : zs ≡ l.last.items) where
     pub two_heavy : 2 ≤ length ys + length zs

@@ -27,10 +27,9 @@ use Rattle.changes.specs.Shares.{share}
 use Rattle.changes.specs.Written.{Room, Wrote, not_laid, laid_at}
 use Rattle.changes.proofs.Keeping.{same_sizes, same_group, keeps_all}
 use Rattle.changes.proofs.Layouts.{mixed_sounds, grave_whole}
-use Rattle.changes.proofs.Openings.{opened_on, opened_plus, opened_stuck, opened_room, mixed_len, Found, FoundAll}
+use Rattle.changes.proofs.Openings.{opened_kept, opened_plus, opened_stuck, opened_room, mixed_len, Found, FoundAll}
 use Rattle.changes.proofs.Standing.{parts_weight, room_after}
 use Rattle.changes.proofs.Telling.{mask_has, told, cell_tells}
-use Rattle.changes.proofs.Writing.{kept_trans, wrote_on}
 
 -- A cell with a part of the mask is the root of a partial tree.
 pub part_told : (v : View) (n i m : ℕ) (k : ℕ → Bool) (b : Bool) → Mask k b m → Partial ≡ share (get_or v.sets.now i 0) m → (t : Tree) → Part (seen v) n i t → Sound t → status k t ≡ part
@@ -120,7 +119,7 @@ module _ (v : View) (n i m : ℕ) (e : Partial ≡ share (get_or v.sets.now i 0)
     -- The first were written from the spot `at` on.
     module _ {R : Cells} {at mid : Spot} (cs ds : List ℕ) (f : cs ≡ l.first.items) (d : ds ≡ l.middle.items) (g : (ts : Trees) → Parts (seen v) n cs ts → Wrote R at mid (group ts)) where
       pub kept_first : {Q S : Cells} → Kept Q R at.cell → Kept R S mid.cell → Kept Q S at.cell
-      kept_first a c = kept_trans a (wrote_on _ (g (here s).firsts (rw f (here s).first))) c
+      kept_first a c = opened_kept a (laid_at (g (here s).firsts (rw f (here s).first))) c
 
       module _ (r : Room at (2 * ones (get_or v.sets.now i 0) + 1)) where
         room_mid : Room mid (2 * (sizes (here s).middles + sizes (here s).lasts) + 1)
@@ -145,7 +144,7 @@ module _ (v : View) (n i m : ℕ) (e : Partial ≡ share (get_or v.sets.now i 0)
             rw j (opened_room ms _ _ (o (has m) true (mask_has m) ms (middle_stand ds d).parts q) (keeps_all (has m) true ms q.good) (omega arith) room_mid)
 
       pub kept_all : {Q S T : Cells} {next : Spot} → FoundAll v n m ds S mid (Some next) → Kept Q R at.cell → Kept R S mid.cell → Kept S T next.cell → Kept Q T at.cell
-      kept_all o a c e = kept_first a (kept_trans c (opened_on (o (has m) true (mask_has m) (here s).middles (middle_stand ds d).parts (middle_sound (here s) s.sound))) e)
+      kept_all o a c e = kept_first a (opened_kept c (o (has m) true (mask_has m) (here s).middles (middle_stand ds d).parts (middle_sound (here s) s.sound)) e)
 
     -- ---- and the branches in the middle are fewer
 
@@ -169,7 +168,7 @@ module _ (v : View) (n i m : ℕ) (e : Partial ≡ share (get_or v.sets.now i 0)
   laid_open cs ds es f d j first c middle g last k b w t p q =
       let y = h k b w t p q (part_told v n i m k b w e t p q) in
       let o = middle k b w y.middles (rw d y.middle) (middle_sound y q) in
-      rw y.opens (opened_plus (laid_at (first y.firsts (rw f y.first))) (kept_trans c (opened_on o) g) (opened_plus o g (laid_at (last y.lasts (rw j y.last)))))
+      rw y.opens (opened_plus (laid_at (first y.firsts (rw f y.first))) (opened_kept c o g) (opened_plus o g (laid_at (last y.lasts (rw j y.last)))))
 
   -- One branch could not be laid open: neither can the tree.
   pub laid_not : {T : Cells} {mid : Spot} (at : Spot) (ds : List ℕ) → ds ≡ l.middle.items → FoundAll v n m ds T mid None → Found v n m i T at None

@@ -31,10 +31,9 @@ use Rattle.changes.proofs.Fronts.{tree_at, back, part_at, sound_at, parts_back, 
 use Rattle.changes.proofs.Having.{had_all}
 use Rattle.changes.proofs.Keeping.{Keeps, same_group, same_sizes, keeps_as, keeps_plus, keeps_up, keeps_row}
 use Rattle.changes.proofs.Laying.{room_less}
-use Rattle.changes.proofs.Openings.{opened_on, opened_plus, opened_not, opened_room_more, Found}
+use Rattle.changes.proofs.Openings.{opened_kept, opened_plus, opened_not, opened_room_more, Found}
 use Rattle.changes.proofs.Standing.{parts_weight, parts_union, room_after, stand_weight}
 use Rattle.changes.proofs.Telling.{mask_has}
-use Rattle.changes.proofs.Writing.{kept_trans, wrote_on}
 
 -- ---- what the middle is
 
@@ -120,7 +119,7 @@ module _ (m : ℕ) (partials fulls : Parts) (e : false ≡ eqb (length partials.
   middle_opened o h w j others ps fs p q u =
       let g = w fs u in
       rw (is_laid ps fs (some ps p))
-      (opened_plus (one_there o ps p q) (kept_trans h (wrote_on (group fs) g) j) (opened_plus (laid_at g) j (others (back 1 ps) (rest_parts ps p) (sounds_back 1 ps q))))
+      (opened_plus (one_there o ps p q) (opened_kept h (laid_at g) j) (opened_plus (laid_at g) j (others (back 1 ps) (rest_parts ps p) (sounds_back 1 ps q))))
 
   -- ---- they stand, and there is room
 
@@ -160,12 +159,9 @@ module _ (m : ℕ) (partials fulls : Parts) (e : false ≡ eqb (length partials.
       pub room_fulls : Room next (2 * full_weight + 1)
       room_fulls = room_less _ _ (omega arith) room_two
 
-      pub kept_one : {Q S : Cells} → Kept Q R at.cell → Kept R S next.cell → Kept Q S at.cell
-      kept_one h j = kept_trans h (opened_on (one_there o s.trees s.parts s.sound)) j
-
       module _ {S : Cells} {mid : Spot} (w : (us : Trees) → Are fulls us → Wrote S next mid (group us)) where
         pub kept_two : {Q T : Cells} → Kept Q R at.cell → Kept R S next.cell → Kept S T mid.cell → Kept Q T at.cell
-        kept_two h j a = kept_one h (kept_trans j (wrote_on _ (w z.trees z.parts)) a)
+        kept_two h j a = opened_kept h (one_there o s.trees s.parts s.sound) (opened_kept j (laid_at (w z.trees z.parts)) a)
 
         pub room_rest : Room mid (2 * weight v.sets.now rest + 1)
         room_rest =

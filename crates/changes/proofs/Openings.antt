@@ -24,12 +24,13 @@ use Rattle.changes.proofs.Fronts.{front, tree_at, front_more, front_size, front_
 use Rattle.changes.proofs.Keeping.{Keeps, same_sizes, keeps_all}
 use Rattle.changes.proofs.Standing.{parts_weight, room_after}
 use Rattle.changes.proofs.Telling.{told, mask_has}
-use Rattle.changes.proofs.Writing.{kept_trans, wrote_plus}
+use Rattle.changes.proofs.Writing.{kept_trans, wrote_on, wrote_plus}
 
 -- ---- openings that were written
 
-pub opened_on : {R : Cells} {at next : Spot} {o : Opening} → Opened R at (Some next) o → at.cell ≤ next.cell
-opened_on (laid_at w) = omega (arith, w.cell_is)
+-- What stood before an opening was written stands behind it.
+pub opened_kept : {Q R S : Cells} {at next : Spot} {o : Opening} → Kept Q R at.cell → Opened R at (Some next) o → Kept R S next.cell → Kept Q S at.cell
+opened_kept h (laid_at w) k = kept_trans h (wrote_on _ w) k
 
 pub opened_plus : {R S : Cells} {at mid : Spot} {r : Option Spot} {x y : Opening} → Opened R at (Some mid) x → Kept R S mid.cell → Opened S mid r y → Opened S at r (x ⊞ y)
 opened_plus (laid_at w) k not_laid = not_laid
@@ -138,11 +139,8 @@ module _ (v : View) (n m : ℕ) (cs : List ℕ) (x : ℕ) where
 
   -- There are such trees, and there was room for all of them.
   module _ (s : AllStand v n cs) {R : Cells} {at next : Spot} (o : SoFar v n m cs R at next x) where
-    so_far : Opened R at (Some next) (open_all (has m) true (front x s.trees))
+    pub so_far : Opened R at (Some next) (open_all (has m) true (front x s.trees))
     so_far = o (has m) true (mask_has m) s.trees s.parts s.sound
-
-    pub loop_kept : {Q S : Cells} → Kept Q R at.cell → Kept R S next.cell → Kept Q S at.cell
-    loop_kept h f = kept_trans h (opened_on so_far) f
 
     -- Room for c cells is left if it was there beside the first x.
     pub room_left : (a c : ℕ) → 2 * sizes (front x s.trees) + c ≤ a → Room at a → Room next c

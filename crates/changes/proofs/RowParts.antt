@@ -28,9 +28,8 @@ use Rattle.changes.specs.Written.{Room, Wrote, Opened, laid_at}
 use Rattle.changes.proofs.Fronts.{front, tree_at, back, front_goods, part_at, sound_at, parts_front, parts_back, sounds_front, sounds_back, three_sizes, three_len}
 use Rattle.changes.proofs.Keeping.{keeps_up}
 use Rattle.changes.proofs.Laying.{room_less}
-use Rattle.changes.proofs.Openings.{opened_on, opened_plus, opened_not, opened_room_more, Found}
+use Rattle.changes.proofs.Openings.{opened_kept, opened_plus, opened_not, opened_room_more, Found}
 use Rattle.changes.proofs.Standing.{parts_weight, room_after}
-use Rattle.changes.proofs.Writing.{kept_trans, wrote_on}
 use Rattle.changes.proofs.Telling.{told, mask_has, cell_tells}
 
 -- ---- the cut of a row
@@ -141,7 +140,7 @@ module _ (part : Subtree) {m x : ℕ} {u : ArrayVec ℕ} {cs : List ℕ} (f : cs
     cut_opened h o j rest t p q =
         let z = there o t p q in
         rw (is_cut t p q)
-        (opened_plus (laid_at (w (front x (kids t)) (before_parts t p))) (kept_trans h (opened_on z) j) (opened_plus z j (rest (back (x + 1) (kids t)) (behind_parts t p) (sounds_back (x + 1) (kids t) (sound_kids t q)))))
+        (opened_plus (laid_at (w (front x (kids t)) (before_parts t p))) (opened_kept h z j) (opened_plus z j (rest (back (x + 1) (kids t)) (behind_parts t p) (sounds_back (x + 1) (kids t) (sound_kids t q)))))
 
   -- ---- the branches stand, and there is room
 
@@ -168,7 +167,7 @@ module _ (part : Subtree) {m x : ℕ} {u : ArrayVec ℕ} {cs : List ℕ} (f : cs
       wrote = w (front x ts) (before_parts s.tree s.part)
 
       pub kept_before : {Q S : Cells} → Kept Q R at.cell → Kept R S mid.cell → Kept Q S at.cell
-      kept_before h j = kept_trans h (wrote_on (front x ts) wrote) j
+      kept_before h j = opened_kept h (laid_at wrote) j
 
       -- A row has three branches at least, so others come before or behind.
       pub room_next : Room mid (2 * ones (get_or v.sets.now (get_or cs x 0) 0) + 1)
@@ -183,7 +182,7 @@ module _ (part : Subtree) {m x : ℕ} {u : ArrayVec ℕ} {cs : List ℕ} (f : cs
         laid_there = there l w o s.tree s.part s.sound
 
         pub kept_next : {Q T : Cells} → Kept Q R at.cell → Kept R S mid.cell → Kept S T next.cell → Kept Q T at.cell
-        kept_next h j a = kept_before h (kept_trans j (opened_on laid_there) a)
+        kept_next h j a = kept_before h (opened_kept j laid_there a)
 
         pub room_behind : Room next (2 * weight v.sets.now behind + 1)
         room_behind =

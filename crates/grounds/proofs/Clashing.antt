@@ -1,6 +1,5 @@
 -- Clashes and grounds by the tests that the checker of rings makes.
-use Rattle.std.proofs.Common.{◌≡◌, ℕ, ◌/◌, ◌%◌, ◌<◌, ◌≤◌, Bool, true, false, ◌⊎◌, ◌↔◌, List, length, sym, refl, ap, ◌∙◌, subst, subst₂, inl, inr, true≢false, arith}
-use mathlib.Core.Bool.{false≢true}
+use Rattle.std.proofs.Common.{◌≡◌, ℕ, ◌/◌, ◌%◌, ◌<◌, ◌≤◌, ◌⊎◌, ◌↔◌, List, length, sym, refl, ap, ◌∙◌, subst, subst₂, inl, inr, arith}
 use native.Mathlib.Decide.{dec_lt, ℕ_discrete}
 use Rattle.finds.specs.Finds.{Finds, Pair, Clash, turned, between, Ground}
 use Rattle.finds.proofs.Parity.{odd_rest}
@@ -8,28 +7,8 @@ use Rattle.clashes.specs.Colours.{pair, Proper}
 use Rattle.clashes.specs.Rings.{Joint, Parts, after, at, Closes}
 use Rattle.clashes.proofs.Clashes.{parts, parted}
 use Rattle.clashes.proofs.Chains.{closes_ground}
-use Rattle.grounds.specs.Checking.{Decided, pairs_of, IsBadRing, Ill, HoldsOn}
+use Rattle.grounds.specs.Checking.{pairs_of, IsBadRing, Ill, HoldsOn}
 use Rattle.grounds.proofs.RingBytes.{pairs_length}
-
-pub decided_yes : (b : Bool) {P : Type 0} → b ≡ true → P → Decided b P
-decided_yes true e p = p
-decided_yes false e p = absurd (false≢true e)
-
-pub decided_no : (b : Bool) {P : Type 0} → b ≡ false → (P → ⊥) → Decided b P
-decided_no true e p = absurd (true≢false e)
-decided_no false e p = p
-
-pub decided_as : (b : Bool) {P Q : Type 0} → (P → Q) → (Q → P) → Decided b P → Decided b Q
-decided_as true to from h = to h
-decided_as false to from h = λ q. h (from q)
-
-pub decided_true : (b : Bool) (P : Type 0) → Decided b P → b ≡ true → P
-decided_true true P h e = h
-decided_true false P h e = absurd (false≢true e)
-
-pub decided_false : (b : Bool) (P : Type 0) → Decided b P → b ≡ false → P → ⊥
-decided_false true P h e = absurd (true≢false e)
-decided_false false P h e = h
 
 -- A pair that is not ill is a pair of two different graves of the table.
 pub well_proper : (f : Finds) (p : Pair) → (Ill f.graves p → ⊥) → Proper f p

@@ -1,5 +1,5 @@
 -- Rings from elsewhere: two bytes for each pair, first and second grave; and whether such a ring is a ground.
-use Rattle.std.specs.Prelude.{◌≡◌, ℕ, ◌/◌, ◌%◌, ◌<◌, ◌≤◌, Bool, ◌⊎◌, List, [], ◌∷◌, length, Some, None, Ok, Err, MatchBool, Option, Result}
+use Rattle.std.specs.Prelude.{◌≡◌, ℕ, ◌/◌, ◌%◌, ◌<◌, ◌≤◌, ◌⊎◌, List, [], ◌∷◌, length, Some, None, Ok, Err, Option, Result}
 use Rattle.finds.specs.Finds.{Finds, Pair, Ground}
 use Rattle.clashes.specs.Colours.{pair}
 use Rattle.clashes.specs.Rings.{Joint, after, at, Closes}
@@ -10,10 +10,6 @@ use Rattle.tables.specs.declared.refusal.Refusal.{Refusal}
 use Rattle.tables.specs.declared.refusal.Refusal.TheVariants.{GraveCount, KindCount, FileLength, UnknownGrave, BadOrder, BadRing, BadPair, ShortMemory}
 use Rattle.grounds.specs.declared.pairs as code
 use Rattle.grounds.specs.declared.verdict.NoClash.{NoClash}
-
--- The answer to a question of yes and no.
-abbrev pub Decided : Bool → Type 0 → Type 0
-Decided r P = MatchBool r P (P → ⊥)
 
 -- The finds that a table stands for.
 abbrev pub finds_in_table : Table → Finds

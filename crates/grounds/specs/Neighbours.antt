@@ -1,11 +1,11 @@
 -- The pairs that clash with a pair, found by sets of graves.
-use Rattle.std.specs.Prelude.{◌≡◌, ℕ, ◌*◌, ◌<◌, cond, not, ◌&&◌, ◌⊎◌, List, bit_or, Some, None, Option}
+use Rattle.std.specs.Prelude.{◌≡◌, ℕ, ◌*◌, ◌<◌, cond, not, ◌&&◌, ◌⊎◌, List, bit_or, Some, None, Decides, Option}
 use Rattle.std.specs.List.{fold}
 use Rattle.finds.specs.Finds.{Finds, Pair}
 use Rattle.finds.specs.Sets.{has}
 use Rattle.clashes.specs.Colours.{Proper}
 use Rattle.clashes.specs.Rings.{Joint, Parts}
-use Rattle.grounds.specs.Checking.{Decided, said}
+use Rattle.grounds.specs.Checking.{said}
 use Rattle.grounds.specs.Notes.{number, beside}
 use Rattle.tables.specs.Format.{finds_of_sets}
 use Rattle.grounds.specs.declared.neighbours.Work.{Work}
@@ -25,7 +25,7 @@ Beyond f a b c = (c ≡ a) ⊎ Parts f a b c
 
 -- The set has just the graves c for which (a,b) and (b,c) clash; a bit for no grave says nothing.
 abbrev pub Clashing : Finds → ℕ → ℕ → ℕ → Type 0
-Clashing f a b set = (c : ℕ) → c < f.graves → Decided (has set c) (Beyond f a b c)
+Clashing f a b set = (c : ℕ) → c < f.graves → Decides (has set c) (Beyond f a b c)
 
 -- The number is that of a pair of two different graves.
 abbrev pub Numbers : Finds → ℕ → Type 0

@@ -1,8 +1,7 @@
 // The checker of a ring from elsewhere.
-ghost use Rattle.std.specs.Prelude.{◌≡◌, ◌/◌, ◌<◌, length, slice_index, MatchOption};
-ghost use Rattle.clashes.specs.Colours.{pair};
+ghost use Rattle.std.specs.Prelude.{◌≡◌, ◌/◌, ◌<◌, length, Decides, MatchOption};
 ghost use Rattle.clashes.specs.Rings.{Joint, Parts, after};
-ghost use Rattle.grounds.specs.Checking.{Decided, finds_in_table, said, pairs_of, Ill, WellBelow, FirstIll, GoodRing, Judged, RingAnswer};
+ghost use Rattle.grounds.specs.Checking.{finds_in_table, said, pairs_of, Ill, WellBelow, FirstIll, GoodRing, Judged, RingAnswer};
 ghost use Rattle.finds.specs.Finds.{Clash};
 
 use crate::pairs::Pair;
@@ -13,17 +12,9 @@ use tables::refusal::Refusal;
 use tables::sets::contains;
 use tables::stored::Table;
 
-// The pair of two bytes.
-fn pair_of(bytes: [u8; 2]) -> Pair
-    ensures { said result ≡ pair (slice_index bytes 0) (slice_index bytes 1) }
-{
-    let [first, second] = bytes;
-    Pair { first, second }
-}
-
 // Whether the pair is of a grave with itself, or with one that is not there.
 fn ill(pair: Pair, n: u8) -> bool
-    ensures { Decided result (Ill n (said pair)) }
+    ensures { Decides result (Ill n (said pair)) }
 {
     pair.first == pair.second || pair.first >= n || pair.second >= n
 }
@@ -33,13 +24,13 @@ fn bad_pair(ring: &[u8], n: u8) -> Option<usize>
     ensures { MatchOption result (WellBelow n ring.now (length ring.now / 2)) (FirstIll n ring.now) }
 {
     let (pairs, _) = ring.as_chunks::<2>();
-    pairs.iter().position(|pair| ill(pair_of(*pair), n))
+    pairs.iter().position(|pair| ill(Pair::from(*pair), n))
 }
 
 // Whether some kind lay in a and in c and not in b.
 fn parted(table: Table, a: u8, b: u8, c: u8) -> bool
     requires known { (a < table.graves) × ((b < table.graves) × (c < table.graves)) }
-    ensures { Decided result (Parts (finds_in_table table.entry) a b c) }
+    ensures { Decides result (Parts (finds_in_table table.entry) a b c) }
 {
     Kinds::of(table.kinds).any(|set| contains(set, a) && contains(set, c) && !contains(set, b))
 }
@@ -47,7 +38,7 @@ fn parted(table: Table, a: u8, b: u8, c: u8) -> bool
 // Whether the second pair goes on from the first and clashes with it.
 fn clash(table: Table, p: Pair, q: Pair) -> bool
     requires well { ((Ill table.graves (said p) → ⊥)) × ((Ill table.graves (said q) → ⊥)) }
-    ensures { Decided result (Clash (finds_in_table table.entry) (said p) (said q)) }
+    ensures { Decides result (Clash (finds_in_table table.entry) (said p) (said q)) }
 {
     p.second == q.first && (p.first == q.second || parted(table, p.first, p.second, q.second))
 }
@@ -55,7 +46,7 @@ fn clash(table: Table, p: Pair, q: Pair) -> bool
 // Whether two pairs clash, in either sense.
 fn joint(table: Table, p: Pair, q: Pair) -> bool
     requires well { ((Ill table.graves (said p) → ⊥)) × ((Ill table.graves (said q) → ⊥)) }
-    ensures { Decided result (Joint (finds_in_table table.entry) (said p) (said q)) }
+    ensures { Decides result (Joint (finds_in_table table.entry) (said p) (said q)) }
 {
     clash(table, p, q) || clash(table, q, p)
 }
@@ -76,7 +67,7 @@ fn judge(table: Table, ring: &[u8]) -> Option<NoClash>
     let (pairs, _) = ring.as_chunks::<2>();
     for (place, this) in pairs.iter().enumerate() {
         let next = pairs[place_after(place, pairs.len())];
-        if !joint(table, pair_of(*this), pair_of(next)) {
+        if !joint(table, Pair::from(*this), Pair::from(next)) {
             return Some(NoClash { pair: place });
         }
     }

@@ -6,11 +6,12 @@ use Rattle.trees.specs.Rows.{seen}
 use Rattle.trees.specs.Subtrees.{Is}
 use Rattle.trees.specs.declared.subtree.Subtree.{Subtree}
 use Rattle.trees.specs.declared.whole.WholeTree.{WholeTree}
+use Rattle.trees.proofs.Deciding.{not_so}
 use Rattle.trees.proofs.Finding.{had_standing}
 use Rattle.certain.specs.Certain.{Between}
 use Rattle.certain.specs.Middle.{Middle}
 use Rattle.certain.specs.Shown.{ShownBy}
-use Rattle.certain.proofs.Descent.{Narrowed, narrowed_more, decided, decides_not, gone, kids_in, parting}
+use Rattle.certain.proofs.Descent.{Narrowed, narrowed_more, decided, gone, kids_in, parting}
 use Rattle.trees.proofs.Sorts.{same_sort, other_sort}
 use Rattle.trees.specs.Sorts.{code_of}
 use Rattle.trees.specs.declared.rows.Sort.TheVariants.{Row}
@@ -18,7 +19,7 @@ use Rattle.certain.proofs.between.is_certain.Goals as goal
 
 -- One of the three is in no branch.
 none_between : {a b c : ℕ} {w : WholeTree} {s : Subtree} → Narrowed a b c w s → ((u : Tree) → Is s u → Sound u → Middle a b c u → ⊥) → (f : Finds) (t : Tree) → ShownBy w f t → Decides false (Between f a b c)
-none_between k n = decided false k (λ u p s. decides_not (n u p s))
+none_between k n = decided false k (λ u p s. not_so (n u p s))
 
 pub returns-in_default : goal.returns-in_default
 returns-in_default c =

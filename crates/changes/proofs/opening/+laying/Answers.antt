@@ -8,7 +8,7 @@ use Rattle.changes.specs.Shares.{share}
 use Rattle.changes.specs.Written.{Room, laid_at, not_laid}
 use Rattle.changes.proofs.Having.{had_all}
 use Rattle.changes.proofs.Laying.{part_told, first_stand, middle_stand, last_stand, room_first, room_middle, room_last, lighter, kept_first, kept_all, laid_open, laid_not}
-use Rattle.changes.proofs.Openings.{Found, stays_whole, loop_more, loop_end, loop_stuck, loop_kept, room_next, each_lighter}
+use Rattle.changes.proofs.Openings.{Found, stays_whole, loop_more, loop_end, loop_stuck, opened_kept, so_far, room_next, each_lighter}
 use Rattle.changes.proofs.Passing.{grouped, all_found}
 use Rattle.changes.proofs.Telling.{told, cell_tells}
 use Rattle.changes.proofs.Through.{through_start, through_some, through_at, through_more, through_end, from_part, to_parts, at_set}
@@ -31,7 +31,8 @@ lay_each-lay_open-requires t c =
     )
 
 pub lay_each-returns-in_err-next-clause-kept : goal.lay_each-returns-in_err-next-clause-kept
-lay_each-returns-in_err-next-clause-kept t c = loop_kept c.args.parts.rows _ _ _ _ (had_all c.args.parts.stand) c.loop-part.invariant.1.2 c.loop-part.invariant.0 c.in_err-next.ensures.kept
+lay_each-returns-in_err-next-clause-kept t c =
+    opened_kept c.loop-part.invariant.0 (so_far c.args.parts.rows _ _ _ _ (had_all c.args.parts.stand) c.loop-part.invariant.1.2) c.in_err-next.ensures.kept
 
 pub lay_each-returns-in_err-next-clause-opened : goal.lay_each-returns-in_err-next-clause-opened
 lay_each-returns-in_err-next-clause-opened t c =
@@ -45,7 +46,7 @@ pub lay_each-loop-part-preserved : goal.lay_each-loop-part-preserved
 lay_each-loop-part-preserved t c =
     let i = c.loop-part.invariant.1 in
     let a = through_at i.1 c.in-Some.ensures.steps in (
-      loop_kept c.args.parts.rows _ _ _ _ (had_all c.args.parts.stand) i.2 c.loop-part.invariant.0 c.in_ok-next.ensures.kept,
+      opened_kept c.loop-part.invariant.0 (so_far c.args.parts.rows _ _ _ _ (had_all c.args.parts.stand) i.2) c.in_ok-next.ensures.kept,
       (
         _,
         through_more i.1 c.in-Some.ensures.steps,
