@@ -76,7 +76,7 @@ fn look(file: &[u8], kinds: &[Graves], orders: &[Vec<u8>]) -> Seen {
     }
 }
 
-// The file with only its first kinds.
+// The file with only its first kinds. (Two programs have it: a library's function would need a contract and a test for it.)
 fn first_kinds(heap: Global, file: &[u8], kinds: u8) -> Result<Vec<u8>, AllocError> {
     let mut front = file.to_vec(heap)?;
     front.truncate(2 + 8 * kinds as usize);

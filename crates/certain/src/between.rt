@@ -17,6 +17,7 @@ fn is_amid(x: usize, y: usize, z: usize) -> bool
 }
 
 // Whether b is certain to lie between a and c: they part at a row of the tree, and there b's branch is between theirs.
+// The three are the places of a relation and no value of their own.
 pub fn is_certain(tree: WholeTree, a: u8, b: u8, c: u8) -> bool
     ensures { (f : Finds) (t : Tree) → ShownBy tree.entry f t → Decides result (Between f a b c) }
 {

@@ -122,9 +122,6 @@ module _ {v : View} {n kind r : ℕ} (site : Site v n kind r) where
   pub part_room : r + 2 * ones ((seen v).set r) ≤ 255
   part_room = omega (arith, stands_size part_stands, site.smallest.within, site.stands.few)
 
-  pub parents_below : (e x : ℕ) → 0 < e → e ≤ x → x < n → (seen v).parent x < n
-  parents_below e x h l u = omega (arith, body_inner (seen v) 0 tree site.stands.part.0 x (omega arith) (omega (arith, count_is)))
-
   -- The tree that the cells hold is the one that stands there.
   held_is : (t : Tree) → Holds (seen v) n t → tree ≡ t
   held_is t h = part_same (seen v) n 0 tree t site.stands.part (holds_part (seen v) n t h)

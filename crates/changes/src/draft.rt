@@ -23,7 +23,7 @@ pub struct Draft {
 }
 
 // Where the next branch goes: the first free cell, the cell of the parent, and the place among its branches.
-// It is passed beside the draft, since each branch goes to a spot of its own in the same draft.
+// It is passed beside the draft, since each branch goes to a spot of its own in the same draft; so each call asks for room behind its own spot.
 #[derive(Clone, Copy)]
 pub struct Spot {
     pub cell: usize,
@@ -31,7 +31,7 @@ pub struct Spot {
     pub place: u8,
 }
 
-// Writes one cell. The sort comes as its number, as a copied cell has it.
+// Writes one cell. The sort comes as its number, as a copied cell has it: to take a sort it would have to be decoded first.
 pub(crate) fn put(draft: &mut Draft, at: Spot, sort: u8, set: u64)
     requires { at.cell < 256 }
     ensures kept { Kept (drafted draft.old) (drafted draft.new) at.cell }

@@ -125,7 +125,7 @@ fn first_not_empty(sets: &[u64], cells: &[u8], mask: u64) -> Option<usize>
     cells.iter().position(|cell| share_of(sets[*cell as usize], mask) != Share::Empty)
 }
 
-// The sets of the cells together.
+// The sets of the cells together: a function of its own for the same reason.
 fn all_of(sets: &[u64], cells: &[u8]) -> u64
     requires { All (λ c. c < length sets.now) cells.now }
     ensures { result ≡ union_of sets.now cells.now }

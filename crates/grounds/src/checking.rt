@@ -27,7 +27,7 @@ fn bad_pair(ring: &[u8], n: u8) -> Option<usize>
     pairs.iter().position(|pair| ill(Pair::from(*pair), n))
 }
 
-// Whether some kind lay in a and in c and not in b.
+// Whether some kind lay in a and in c and not in b: three places of a relation, and no value of their own.
 fn parted(table: Table, a: u8, b: u8, c: u8) -> bool
     requires known { (a < table.graves) × ((b < table.graves) × (c < table.graves)) }
     ensures { Decides result (Parts (finds_in_table table.entry) a b c) }

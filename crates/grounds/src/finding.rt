@@ -55,6 +55,7 @@ fn find(
 
 // The number of pairs of an odd ring of the table with these kinds, whose pairs are written into `ring`, or None if some order fits.
 // The cells that are lent for the search are cleared at the end, so that what they hold is known.
+// Kinds and graves are two, as the reader hands them on; they are one in the search, which has methods for both.
 pub fn find_ring(kinds: &[u64], graves: u8, notes: &mut Notebook, ring: &mut [u8]) -> Option<usize>
     requires few { (1 ≤ graves) × (graves ≤ 64) }
     requires wide { (colours_for graves ≤ length notes.old.depths.now) × ((colours_for graves ≤ length notes.old.parents.now) × (colours_for graves ≤ length notes.old.queue.now)) }

@@ -85,6 +85,7 @@ impl Search<'_> {
         // The loops stand in one function, since a fork leaves all of them by the label.
         let mut found = None;
         let mut head = 0;
+        // The number of a cell is that of its pair.
         'search: for seed in 0..n * n {
             if seed / n == seed % n || self.depths[seed] != 0 {
                 continue;
@@ -93,6 +94,7 @@ impl Search<'_> {
             // The queue stands in a lent slice, so its places are counted.
             while head < self.tail {
                 let work = sets.at_work(self.queue[head] as usize);
+                // The place tells which of the pairs beside it.
                 for place in 0..2 * n {
                     let Some(other) = sets.neighbour(work, place) else {
                         continue;

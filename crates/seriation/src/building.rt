@@ -15,7 +15,7 @@ pub fn build(file: &[u8], rows: &mut Rows, kinds: &mut [u64]) -> Result<Built, R
     ensures built { BuiltFrom file.now (lent_rows rows.old) (lent_rows rows.new) kinds.old kinds.new result }
     ensures same { SameSlices rows.old rows.new }
 {
-    // No search follows, so there is room for it.
+    // No search follows, so its memory is never too short.
     let room = Room {
         branches: rows.room(),
         kinds: kinds.len(),

@@ -51,7 +51,7 @@ fn print_table(rt: &HostRuntime, file: &[u8], orders: &[Vec<u8>]) -> anyhow::Res
     Ok(())
 }
 
-// The file with only its first kinds.
+// The file with only its first kinds. (Two programs have it: a library's function would need a contract and a test for it.)
 fn first_kinds(heap: Global, file: &[u8], kinds: u8) -> Result<Vec<u8>, AllocError> {
     let mut front = file.to_vec(heap)?;
     front.truncate(2 + 8 * kinds as usize);

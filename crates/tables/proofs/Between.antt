@@ -1,5 +1,5 @@
 -- The places between the first and the last grave of a kind.
-use Rattle.std.proofs.Common.{◌≡◌, ℕ, ◌+◌, ◌-◌, ◌<◌, ◌≤◌, Bool, true, false, List, length, get_or, take, drop, sym, ap, ◌∙◌, true≢false, arith, length-drop}
+use Rattle.std.proofs.Common.{◌≡◌, ℕ, ◌+◌, ◌-◌, ◌<◌, Bool, true, false, List, length, get_or, take, drop, sym, ap, ◌∙◌, true≢false, arith, length-drop}
 use Rattle.std.proofs.lemmas.List.{get_or-take, get_or-drop, length-take-le}
 use native.Mathlib.Decide.{dec_lt}
 use Rattle.tables.specs.Orders.{Between}
@@ -14,14 +14,6 @@ pub record Ends (k : ℕ → Bool) (l : List ℕ) (first last : ℕ) : Type 0 wh
   pub none_behind : (p : ℕ) → last < p → p < length l → k (get_or l p 0) ≡ false
 
 module _ {k : ℕ → Bool} {l : List ℕ} {first last : ℕ} (e : Ends k l first last) where
-  -- The first is not behind the last.
-  pub ends_order : first ≤ last
-  ends_order = go (dec_lt last first)
-    where
-      go : Dec (last < first) → first ≤ last
-      go (yes d) = absurd (true≢false (sym e.first_has ∙ e.none_behind first d e.first_lt))
-      go (no d) = omega arith
-
   -- A grave between two of the kind lies between the first and the last.
   inside : (p : ℕ) → Between k l p → (first < p) × (p < last)
   inside p t = (from (dec_lt t.before first), to (dec_lt last t.behind))

@@ -1,7 +1,8 @@
 -- Sorts told apart by `==` and by `!=`.
-use Rattle.std.proofs.Common.{◌≡◌, Bool, true, false, not, sym, refl, ap, ◌∙◌, arith}
+use Rattle.std.proofs.Common.{◌≡◌, true, false, not, sym, refl, ap, ◌∙◌, arith}
 use mathlib.Core.Bool.{false≢true}
 use denote.Enum.Bare.{sameb}
+use Rattle.finds.proofs.Parity.{not_not}
 use Rattle.trees.specs.Sorts.{code_of}
 use Rattle.trees.specs.contracts.rows.Sort.{the_type}
 use Rattle.trees.specs.declared.rows.Sort.{Sort}
@@ -30,12 +31,8 @@ other_sort Row Grave e k = omega arith
 other_sort Row Any e k = omega arith
 other_sort Row Row e k = false≢true e
 
-twice : (b : Bool) → not (not b) ≡ b
-twice true = refl
-twice false = refl
-
 pub same_unless : (s w : Sort) → false ≡ not (sameb the_type s w) → s ≡ w
-same_unless s w e = same_sort s w (ap not e ∙ twice (sameb the_type s w))
+same_unless s w e = same_sort s w (ap not e ∙ not_not (sameb the_type s w))
 
 pub other_if : (s w : Sort) → true ≡ not (sameb the_type s w) → (code_of s ≡ code_of w) → ⊥
-other_if s w e = other_sort s w (ap not e ∙ twice (sameb the_type s w))
+other_if s w e = other_sort s w (ap not e ∙ not_not (sameb the_type s w))

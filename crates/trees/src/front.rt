@@ -26,7 +26,7 @@ fn read_graves(tree: WholeTree, out: &mut [u8]) -> usize
     ensures { (t : Tree) → Holds (seen tree.entry.rows) tree.entry.count t → Sound t → (result ≡ size t) × (out.new ≡ graves t ++ drop result out.old) }
 {
     let mut at = 0;
-    // A cell is one place in two rows, so cells are counted.
+    // A cell is one place in all rows, so cells are counted: two rows that are cut and zipped would be no plainer.
     for i in 0..tree.count {
         if tree.rows.sorts[i] == Sort::Grave.into() {
             out[at] = tree.rows.sets[i].trailing_zeros() as u8;

@@ -82,6 +82,7 @@ fn main(rt: HostRuntime) -> anyhow::Result<Ending> {
     let Some(file) = bytes_of(&rt, call.file.as_str())? else {
         return Ok(Ending::TurnedAway);
     };
+    // Two calls with two promises: to choose a closure first would be no plainer.
     let printed = match call.question {
         Question::Order => order_text(rt.alloc(), table.as_slice(), file.as_slice())?,
         Question::Ring => ring_text(rt.alloc(), table.as_slice(), file.as_slice())?,

@@ -7,6 +7,7 @@ use lib.Bits.{bit_xor}
 use lib.Count.{ones}
 use Rattle.finds.specs.Sets.{bit, has}
 use Rattle.finds.specs.Trees.{Tree, grave, any, row, Allows}
+use Rattle.finds.proofs.Parity.{not_not}
 use Rattle.trees.specs.Cells.{size, set_of, sets_of, kids, Cells, Body, Part, Sound}
 use Rattle.trees.specs.Reading.{beginning_of}
 use Rattle.trees.specs.Rows.{seen}
@@ -142,10 +143,6 @@ any_allows-returns t c = λ u p s.
     as_any (seen c.args.part.rows) c.args.part.root u c.args.row.now true p.0 c.requires.sort (so (picked_end s (i.3 u p s) (omega (arith, ap length i.2, length-drop i.0 c.args.row.now, none_left c.loop-grave.rest.now c.in_default.ensures.value))))
 
 -- ---- branches in a row
-
-not_not : (b : Bool) → not (not b) ≡ b
-not_not true = refl
-not_not false = refl
 
 -- The part of the row for the next branch.
 next_part : (l : List ℕ) (b : Bool) (at many k begin : ℕ) → many ≡ k → begin ≡ beginning_of b at many (length l) → take (begin + many - begin) (drop begin l) ≡ take k (drop (beginning_of b at k (length l)) l)
