@@ -3,10 +3,9 @@ use Rattle.std.proofs.Common.{◌≡◌, ℕ, zero, suc, ◌+◌, ◌*◌, ◌<�
 use lib.Count.{ones}
 use Rattle.finds.specs.Trees.{Tree, Trees, none, more, Mixed, no_more, put, Put, first, after, Goods, len}
 use Rattle.finds.specs.Sets.{has}
-use Rattle.finds.proofs.Branches.{plus_none}
 use Rattle.pqtree.specs.Status.{status}
 use Rattle.pqtree.specs.Opening.{Opening, stuck, laid, ◌⊞◌, open_up, open_all}
-use Rattle.pqtree.proofs.Opening.{open_all_plus, open_whole}
+use Rattle.pqtree.proofs.Opening.{laid_none, open_all_plus, open_whole}
 use Rattle.trees.specs.Cells.{size, sizes, Cells, Part, Parts, Sound, Sounds}
 use Rattle.trees.specs.Masks.{Mask}
 use Rattle.trees.specs.Rows.{seen}
@@ -55,11 +54,7 @@ opened_not y not_laid = not_laid
 
 module _ (k : ℕ → Bool) (b : Bool) where
   one_more : (x : ℕ) (ts : Trees) → x < len ts → open_all k b (front (x + 1) ts) ≡ open_all k b (front x ts) ⊞ open_up k b (tree_at x ts)
-  one_more x ts l = ap (open_all k b) (front_more x ts l) ∙ open_all_plus k b (front x ts) (more (tree_at x ts) none) ∙ ap (λ (o : Opening). open_all k b (front x ts) ⊞ o) (alone (open_up k b (tree_at x ts)))
-    where
-      alone : (o : Opening) → o ⊞ laid none ≡ o
-      alone stuck = refl
-      alone (laid us) = ap laid (plus_none us)
+  one_more x ts l = ap (open_all k b) (front_more x ts l) ∙ open_all_plus k b (front x ts) (more (tree_at x ts) none) ∙ ap (λ (o : Opening). open_all k b (front x ts) ⊞ o) (laid_none (open_up k b (tree_at x ts)))
 
   -- One branch more is laid open.
   pub opened_front : {R S : Cells} {at mid next : Spot} (x : ℕ) (ts : Trees) → x < len ts → Opened R at (Some mid) (open_all k b (front x ts)) → Kept R S mid.cell →

@@ -43,7 +43,7 @@ laid_assoc (laid x) stuck z = refl
 laid_assoc (laid x) (laid y) stuck = refl
 laid_assoc (laid x) (laid y) (laid z) = ap laid (plus_assoc x y z)
 
-laid_none : (x : Opening) → x ⊞ laid none ≡ x
+pub laid_none : (x : Opening) → x ⊞ laid none ≡ x
 laid_none stuck = refl
 laid_none (laid x) = ap laid (plus_none x)
 
