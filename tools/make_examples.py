@@ -15,7 +15,7 @@ EXAMPLES = [
     ('star', 4, [[0, 1], [0, 2], [0, 3]], 'Four graves, a kind in grave 0 and each other one: no order fits, since 0 cannot lie next to three graves.'),
     ('overlap', 6, [[0, 1, 2, 3], [2, 3, 4], [0, 5]], 'Six graves: kind 0 in 0 1 2 3, kind 1 in 2 3 4, kind 2 in 0 5. [4 {2 3} 1 0 5], 4 orders.'),
     ('single', 1, [[0]], 'One grave with one kind: the tree is the grave itself, 0, and there is one order.'),
-    ('twenty', 20, [], 'Twenty graves and no kinds: 2432902008176640000 orders, the last number below 2^64.'),
+    ('twenty', 20, [], 'Twenty graves and no kinds: 2432902008176640000 orders; 21 graves have more than 2^64.'),
     ('many', 24, [[5], [7]], 'Twenty-four graves, and two kinds that lie in one grave each and so tie nothing: 2^64 orders or more, many.'),
 ]
 
