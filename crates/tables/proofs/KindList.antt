@@ -5,7 +5,7 @@ use Rattle.finds.specs.Sets.{has}
 use Rattle.tables.specs.Format.{kind_set, kinds_from, sets_from, finds_in, finds_of_sets}
 use Rattle.tables.proofs.KindSets.{sets_length, sets_at}
 
-kinds_are : (bs : List ℕ) (i m : ℕ) → kinds_from bs i m ≡ map has (sets_from bs i m)
+pub kinds_are : (bs : List ℕ) (i m : ℕ) → kinds_from bs i m ≡ map has (sets_from bs i m)
 kinds_are bs i zero = refl
 kinds_are bs i (suc m) = ap (λ (ks : List (ℕ → Bool)). has (kind_set bs i) ∷ ks) (kinds_are bs (suc i) m)
 

@@ -69,14 +69,14 @@ fn shortage(lent: Option<Room>, n: u8, m: u8) -> Option<Lent>
 }
 
 // A kind's graves from its eight bytes, low byte first.
-pub(crate) fn word(bytes: &[u8]) -> u64
+fn word(bytes: &[u8]) -> u64
     requires { length bytes.now ≡ 8 }
     ensures { result ≡ word_at bytes.now 0 }
 {
     u64::from_le_bytes(bytes.try_into().unwrap())
 }
 
-// The graves of kind i, for whoever asks for one kind alone: a part of the bytes that starts in their middle.
+// The graves of kind i: a part of the bytes that starts in their middle.
 pub fn kind_at(kinds: &[u8], i: usize) -> u64
     requires { 8 * i + 8 ≤ length kinds.now }
     ensures { result ≡ kind_set kinds.now i }
