@@ -4,7 +4,7 @@ use Rattle.std.proofs.lemmas.List.{get_or-take, get_or-drop, length-take, length
 use Rattle.finds.specs.Trees.{Tree, Trees, none, more}
 use Rattle.trees.specs.Cells.{nodes, all_nodes, kids, Part, Parts, roots, Sounds}
 use Rattle.trees.specs.Rows.{seen, Long, Row, Stands}
-use Rattle.trees.specs.Subtrees.{Is, Begins, Yields, Lists}
+use Rattle.trees.specs.Subtrees.{Is, Begins, Ahead, Yields, Lists}
 use Rattle.trees.specs.declared.rows.View.{View}
 use Rattle.trees.specs.declared.subtree.Branches.{Branches}
 use Rattle.trees.specs.declared.subtree.Subtree.{Subtree}
@@ -102,6 +102,12 @@ lists (more t ts) {v} {n} {i} {e} p h b rs k a d = go (λ b'. lists ts p.1 (omeg
         let at : s.root ≡ i = y.root ∙ a in
         let it : Is s t = subst (λ (x : View). Part (seen x) s.count s.root t) (sym (y.rows ∙ rs)) (subst (λ (m : ℕ). Part (seen v) m s.root t) (sym (y.count ∙ k)) (subst (λ (c : ℕ). Part (seen v) n c t) (sym at) p.0)) in
         (s, refl, at, f b' (y.rows_after ∙ rs) (y.count_after ∙ k) (y.at_after t it ∙ ap (λ (x : ℕ). x + nodes t) at) (y.end_after ∙ d))
+
+-- Where the next branch of a walk ends.
+pub ahead_ends : {b : Branches} {x : Subtree} → Ahead b x → (e : ℕ) → ((t : Tree) → Is x t → e ≡ x.root + nodes t) → (t : Tree) → Part (seen b.rows) b.count b.at t → e ≡ b.at + nodes t
+ahead_ends {b} {x} h e f t p =
+    let it : Is x t = subst (λ (v : View). Part (seen v) x.count x.root t) (sym h.rows) (subst (λ (m : ℕ). Part (seen b.rows) m x.root t) (sym h.count) (subst (λ (c : ℕ). Part (seen b.rows) b.count c t) (sym h.root) p)) in
+    f t it ∙ ap (λ (c : ℕ). c + nodes t) h.root
 
 -- A walk from the cell behind the root of a part up to its end goes over all its branches.
 pub begins : (s : Subtree) (b : Branches) → b.rows ≡ s.rows → b.count ≡ s.count → b.at ≡ s.root + 1 → ((t : Tree) → Is s t → b.end ≡ s.root + nodes t) → Begins s b

@@ -1,11 +1,11 @@
 -- Loops over the branches of a part.
-use Rattle.std.proofs.Common.{◌≡◌, ℕ, suc, ◌+◌, ◌≤◌, sym, ◌∙◌, subst}
+use Rattle.std.proofs.Common.{◌≡◌, ℕ, suc, ◌+◌, ◌≤◌, Option, Some, None, sym, ap, ◌∙◌, subst, arith}
 use Rattle.finds.specs.Branches.{◌+++◌}
 use Rattle.finds.specs.Trees.{Tree, Trees, none, more}
 use lib.Count.{ones}
 use Rattle.trees.specs.Cells.{nodes, all_nodes, size, set_of, kids, Part, Sound, Sounds}
 use Rattle.trees.specs.Rows.{seen}
-use Rattle.trees.specs.Subtrees.{Is, set_at, Within, Begins, Steps}
+use Rattle.trees.specs.Subtrees.{Is, set_at, Within, Begins, Ahead, Steps, Yields}
 use Rattle.trees.specs.Walks.{BranchWith}
 use Rattle.trees.specs.declared.rows.View.{View}
 use Rattle.trees.specs.declared.subtree.Branches.{Branches}
@@ -47,15 +47,34 @@ pub record Branch (s x : Subtree) (t : Tree) (P : Trees → Trees → Type 0) : 
   pub part : Is x it
   pub so : P done (more it rest)
 
-pub going_within : {s x : Subtree} {b b' : Branches} {P : Tree → Trees → Trees → Type 0} → Going s b P → Steps b x b' → Within s x
-going_within g h = record { rows = h.rows ∙ g.rows; count = h.count ∙ g.count }
+-- The branch that a step yields was the next.
+pub ahead : {b b' : Branches} {x : Subtree} → Steps b x b' → Ahead b x
+ahead h = record { some = h.some; rows = h.rows; count = h.count; root = h.root }
 
-next_of : {s x : Subtree} {b b' : Branches} {P : Tree → Trees → Trees → Type 0} → Going s b P → Steps b x b' → (t : Tree) → Is s t → Next (seen s.rows) s.count s.root x.root t (P t)
-next_of {s} {x} {b} {b'} {P} g h t p =
+-- A walk with a branch ahead goes on by one.
+pub goes_on : {b b' : Branches} {x : Subtree} → Ahead b x → (o : Option Subtree) → Yields b o b' → (s : Subtree) × Steps b s b'
+goes_on h None y = absurd (omega (arith, h.some, y.0))
+goes_on h (Some s) y = (s, y)
+
+-- Two that are next on the same walk have the same graves.
+pub same_ahead : {b : Branches} {x y : Subtree} → Ahead b x → Ahead b y → set_at x ≡ set_at y
+same_ahead {b} {x} {y} h k = ap (λ (v : View). (seen v).set x.root) (h.rows ∙ sym k.rows) ∙ ap (λ (i : ℕ). (seen y.rows).set i) (h.root ∙ sym k.root)
+
+ahead_within : {s x : Subtree} {b : Branches} {P : Tree → Trees → Trees → Type 0} → Going s b P → Ahead b x → Within s x
+ahead_within g h = record { rows = h.rows ∙ g.rows; count = h.count ∙ g.count }
+
+pub going_within : {s x : Subtree} {b b' : Branches} {P : Tree → Trees → Trees → Type 0} → Going s b P → Steps b x b' → Within s x
+going_within g h = ahead_within g (ahead h)
+
+next_of : {s x : Subtree} {b : Branches} {P : Tree → Trees → Trees → Type 0} → Going s b P → Ahead b x → (t : Tree) → Is s t → Next (seen s.rows) s.count s.root x.root t (P t)
+next_of {s} {x} {b} {P} g h t p =
     subst (λ (c : ℕ). Next (seen s.rows) s.count s.root c t (P t)) (sym h.root) (walk_next p (g.walked t p) (g.end t p) h.some)
 
+pub going_ahead : {s x : Subtree} {b : Branches} {P : Tree → Trees → Trees → Type 0} → Going s b P → Ahead b x → (t : Tree) → Is s t → Branch s x t (P t)
+going_ahead g h t p = let n = next_of g h t p in record { done = n.done; it = n.it; rest = n.rest; is = n.is; at = n.at; part = beside n.it (ahead_within g h) n.part; so = n.so }
+
 pub going_next : {s x : Subtree} {b b' : Branches} {P : Tree → Trees → Trees → Type 0} → Going s b P → Steps b x b' → (t : Tree) → Is s t → Branch s x t (P t)
-going_next g h t p = let n = next_of g h t p in record { done = n.done; it = n.it; rest = n.rest; is = n.is; at = n.at; part = beside n.it (going_within g h) n.part; so = n.so }
+going_next g h = going_ahead g (ahead h)
 
 -- A branch of a sound tree is sound.
 pub branch_sound : {s x : Subtree} {t : Tree} {P : Trees → Trees → Type 0} → Sound t → (b : Branch s x t P) → Sound b.it
@@ -63,12 +82,12 @@ branch_sound {s} {x} {t} {P} h b = sounds_first b.it b.rest (sounds_cut b.done (
 
 pub going_more : {s x : Subtree} {b b' : Branches} {P : Tree → Trees → Trees → Type 0} (Q : Tree → Trees → Trees → Type 0) → Going s b P → Steps b x b' →
     ((t : Tree) → Is s t → (n : Branch s x t (P t)) → Q t (n.done +++ more n.it none) n.rest) → Going s b' Q
-unfolding next_of going_next
+unfolding next_of going_ahead going_next
 going_more {s} {x} {b} {b'} {P} Q g h f = record {
   rows = h.rows_after ∙ g.rows;
   count = h.count_after ∙ g.count;
   end = λ t p. h.end_after ∙ g.end t p;
-  walked = λ t p. let n = next_of g h t p in walk_more (Q t) b'.at n (h.at_after n.it (beside n.it (going_within g h) n.part)) (f t p (going_next g h t p));
+  walked = λ t p. let n = next_of g (ahead h) t p in walk_more (Q t) b'.at n (h.at_after n.it (beside n.it (going_within g h) n.part)) (f t p (going_next g h t p));
 }
 
 -- At the end all branches are done.

@@ -19,6 +19,18 @@ pub record Within (s b : Subtree) : Type 0 where
   pub rows : b.rows ≡ s.rows
   pub count : b.count ≡ s.count
 
+-- The next branch of a walk: its root is the next cell.
+pub record Ahead (b : Branches) (s : Subtree) : Type 0 where
+  pub some : b.at < b.end
+  pub rows : s.rows ≡ b.rows
+  pub count : s.count ≡ b.count
+  pub root : s.root ≡ b.at
+
+-- What comes next on a walk: a branch, or nothing at the end.
+abbrev pub Peeks : Branches → Option Subtree → Type 0
+Peeks b None = b.end ≤ b.at
+Peeks b (Some s) = Ahead b s
+
 -- A walk goes on by one branch: the next cell is its root, and the walk is then behind it.
 pub record Steps (b : Branches) (s : Subtree) (b' : Branches) : Type 0 where
   pub some : b.at < b.end

@@ -88,12 +88,32 @@ impl<'a> Subtree<'a> {
         ensures same { IfSome result (Within self.entry) }
         ensures found { (t : Tree) → Is self.entry t → MatchOption result (bit grave (sets_of (kids t)) ≡ 0) (λ b. BranchWith self.entry.root grave t b.root) }
     {
-        for branch in self.branches() {
+        let mut left = self.branches();
+        while let Some(branch) = left.peek() {
             if contains(branch.graves(), grave) {
                 return Some(branch);
             }
+            left.next();
         }
         None
+    }
+}
+
+impl<'a> Branches<'a> {
+    ghost use Rattle.trees.specs.Subtrees.{Peeks};
+
+    // The next branch, which stays the next: where it ends is not looked for.
+    fn peek(self) -> Option<Subtree<'a>>
+        ensures { Peeks self.entry result }
+    {
+        if self.at >= self.end {
+            return None;
+        }
+        Some(Subtree {
+            rows: self.rows,
+            count: self.count,
+            root: self.at,
+        })
     }
 }
 
@@ -115,14 +135,7 @@ impl<'a> Iterator for Branches<'a> {
     ghost remaining = { λ b. at_most (b.end - b.at) };
 
     fn next(&mut self) -> Option<Subtree<'a>> {
-        if self.at >= self.end {
-            return None;
-        }
-        let branch = Subtree {
-            rows: self.rows,
-            count: self.count,
-            root: self.at,
-        };
+        let branch = self.peek()?;
         self.at = branch.end();
         Some(branch)
     }
