@@ -56,6 +56,25 @@ begins_kids (grave x) t ts e g h = absurd (let n = ap len e in omega arith)
 begins_kids (any us) t ts e g h = (h.0 ++ all_graves ts, ap all_graves e ∙ ap (λ (z : List ℕ). z ++ all_graves ts) h.1)
 begins_kids (row us) t ts e g h = (h.0 ++ all_graves ts, ap all_graves e ∙ ap (λ (z : List ℕ). z ++ all_graves ts) h.1)
 
+-- Only the cell of a grave has the sort 0.
+pub leaf : (R : Cells) (i : ℕ) (u : Tree) → Body R i u → R.sort i ≡ 0 → kids u ≡ none
+leaf R i (grave g) b e = refl
+leaf R i (any ts) b e = absurd (omega (arith, b.0))
+leaf R i (row ts) b e = absurd (omega (arith, b.0))
+
+bare : (R : Cells) (i : ℕ) (u : Tree) → Body R i u → Sound u → kids u ≡ none → R.sort i ≡ 0
+bare R i (grave g) b s e = b.0
+bare R i (any ts) b s e = absurd (let n = ap len e in omega (arith, s.good.0))
+bare R i (row ts) b s e = absurd (let n = ap len e in omega (arith, s.good.0))
+
+-- The first branch of a tree that is no grave is in the next cell.
+pub first_kid : (R : Cells) (n i : ℕ) (u : Tree) → Part R n i u → Sound u → (R.sort i ≡ 0 → ⊥) → (t : Tree) × (ts : Trees) × (kids u ≡ more t ts) × Part R n (i + 1) t
+first_kid R n i u p s k = go (kids u) refl
+  where
+    go : (ts : Trees) → kids u ≡ ts → (t : Tree) × (us : Trees) × (kids u ≡ more t us) × Part R n (i + 1) t
+    go none e = absurd (k (bare R i u p.0 s e))
+    go (more t ts) e = (t, ts, e, subst (λ (z : ℕ). Part R n z t) (omega arith) (part_at R n i u none t ts p e))
+
 -- One without branches is a grave.
 pub grave_begins : (R : Cells) (i : ℕ) (u : Tree) → Body R i u → Sound u → kids u ≡ none → Begins u (grave_in R i)
 grave_begins R i (grave g) b s e = ([], ap (λ (z : ℕ). z ∷ []) (sym (grave_is R i g b s)))

@@ -23,11 +23,13 @@ pub fn is_certain(tree: WholeTree, a: u8, b: u8, c: u8) -> bool
 {
     let mut part = tree.root();
     loop {
-        let (Some(x), Some(y), Some(z)) = (
-            part.branch_with(a),
-            part.branch_with(b),
-            part.branch_with(c),
-        ) else {
+        let Some(x) = part.branch_with(a) else {
+            return false;
+        };
+        let Some(y) = part.branch_with(b) else {
+            return false;
+        };
+        let Some(z) = part.branch_with(c) else {
             return false;
         };
         if x.root != y.root || y.root != z.root {

@@ -1,8 +1,8 @@
 // The nearest graves between which a grave is certain to lie.
-ghost use Rattle.std.specs.Prelude.{◌≡◌, ℕ, ◌<◌, ◌≤◌, List, ◌∷◌, length, drop, slice_index};
+ghost use Rattle.std.specs.Prelude.{◌≡◌, ℕ, ◌<◌, ◌≤◌, List, ◌∷◌, ◌+◌, length, drop, IfSome, MatchOption, slice_index};
 ghost use Rattle.finds.specs.Finds.{Finds};
-ghost use Rattle.finds.specs.Trees.{Tree, graves};
-ghost use Rattle.trees.specs.Cells.{Sound};
+ghost use Rattle.finds.specs.Trees.{Tree, Trees, none, more, graves};
+ghost use Rattle.trees.specs.Cells.{kids, Sound};
 ghost use Rattle.trees.specs.Rows.{seen};
 ghost use Rattle.trees.specs.Subtrees.{Is, Within};
 ghost use Rattle.certain.specs.Answering.{NearAnswer};
@@ -14,12 +14,27 @@ use trees::rows::{Sort, View};
 use trees::subtree::Subtree;
 use trees::whole::WholeTree;
 
+// The first branch of the part, which has its root in the next cell; None of a grave. (Where the part ends is not looked for, as a walk over its branches would.)
+fn first_branch<'a>(part: Subtree<'a>) -> Option<Subtree<'a>>
+    ensures next { IfSome result (λ b. Within part.entry b × (b.root ≡ part.entry.root + 1)) }
+    ensures first { (t : Tree) → Is part.entry t → Sound t → MatchOption result (kids t ≡ none) (λ b. (u : Tree) × (us : Trees) × (kids t ≡ more u us) × Is b u) }
+{
+    if part.sort() == Sort::Grave {
+        return None;
+    }
+    Some(Subtree {
+        rows: part.rows,
+        count: part.count,
+        root: part.root + 1,
+    })
+}
+
 // The first grave of the part: that of its first branch, as long as there is one.
 fn first_grave(part: Subtree) -> u8
     ensures { (t : Tree) → Is part.entry t → Sound t → (rest : List ℕ) × (graves t ≡ result ∷ rest) }
 {
     let mut first = part;
-    while let Some(branch) = first.branches().next() {
+    while let Some(branch) = first_branch(first) {
         first = branch;
     }
     first.graves().trailing_zeros() as u8
@@ -31,8 +46,11 @@ fn flanks(part: Subtree, branch: Subtree) -> Option<Neighbours>
     requires branch { (u : Tree) → Is part u → BranchAt part.root branch.root u }
     ensures { (u : Tree) → Is part.entry u → Sound u → (w : BranchAt part.entry.root branch.entry.root u) → Flanks ((seen part.entry.rows).sort part.entry.root) w.before w.behind result }
 {
+    if part.sort() != Sort::Row || branch.root == part.root + 1 {
+        return None;
+    }
     let end = branch.end();
-    if part.sort() != Sort::Row || branch.root == part.root + 1 || end == part.end() {
+    if end == part.end() {
         return None;
     }
     let next = Subtree {

@@ -35,7 +35,10 @@ pub fn orders(tree: WholeTree) -> Option<u64>
     let mut all = 1u64;
     // i is the number of the cell itself.
     for i in 0..tree.count {
-        all = all.checked_mul(factor_at(tree, i))?;
+        let Some(more) = all.checked_mul(factor_at(tree, i)) else {
+            return None;
+        };
+        all = more;
     }
     Some(all)
 }

@@ -12,7 +12,7 @@ use Rattle.trees.proofs.Sorts.{same_unless, other_if}
 use Rattle.trees.specs.Sorts.{code_of}
 use Rattle.trees.specs.declared.rows.Sort.TheVariants.{Row}
 use Rattle.certain.proofs.near.flanks.Goals as goal
-use Rattle.certain.proofs.near.flanks.Goals.{then-ne-via-then-ne, then-ne-via-else-ne+then-branch-part, then-ne-via-else-ne+else-branch-part+then-end}
+use Rattle.certain.proofs.near.flanks.Goals.{then-ne-via-then-ne, then-ne-via-else-ne+then-branch-part}
 
 -- Where the branch ends.
 ended : {s b : Subtree} {u : Tree} {e : ℕ} → Within s b → Is s u → Sound u → (w : BranchAt s.root b.root u) → ((t : Tree) → Is b t → e ≡ b.root + nodes t) → e ≡ b.root + nodes w.it
@@ -24,8 +24,11 @@ returns-then-ne c = λ u p s w e x y.
     elim c.then-ne.branch [
       | then-ne-via-then-ne k ↦ other_if c.sort.result Row k.if-ne.ensures (c.sort.ensures ∙ e)
       | then-ne-via-else-ne+then-branch-part k ↦ none_before_it R c.args.part.count p s w k.if-branch-part.true x
-      | then-ne-via-else-ne+else-branch-part+then-end k ↦ none_behind_it R c.args.part.count p s w _ _ (ended c.requires.within p s w c.end-end.ensures.end) (k.end.ensures.end u p) k.if-end.true y
     ]
+
+pub returns-then-end : goal.returns-then-end
+returns-then-end c = λ u p s w e x y.
+    none_behind_it (seen c.args.part.rows) c.args.part.count p s w _ _ (ended c.requires.within p s w c.end-end.ensures.end) (c.end.ensures.end u p) c.if-end.true y
 
 -- The branch lies within the rows.
 inside : {s b : Subtree} → Within s b → (b.root < 127) × (b.root < length s.rows.sets.now)

@@ -1,9 +1,8 @@
-use Rattle.std.proofs.Common.{◌≡◌, ℕ, ◌+◌, ◌-◌, ◌*◌, ◌^◌, ◌<◌, ◌≤◌, Option, sym, ap, ◌∙◌, subst, arith}
-use Rattle.std.specs.Option.{SomeIff}
+use Rattle.std.proofs.Common.{◌≡◌, ℕ, ◌+◌, ◌-◌, ◌*◌, ◌^◌, ◌<◌, ◌≤◌, sym, ap, ◌∙◌, subst, arith}
 use Rattle.finds.specs.Trees.{Tree}
 use Rattle.trees.specs.Cells.{Cells, Holds}
 use Rattle.trees.specs.Rows.{seen}
-use Rattle.certain.specs.Counting.{product, Number, Fitting, Counted}
+use Rattle.certain.specs.Counting.{product, Number, Fitting}
 use Rattle.certain.specs.Factors.{factor}
 use Rattle.certain.proofs.Counting.{number_fitting}
 use Rattle.certain.proofs.Factors.{factors, factors_more, factors_grow, tree_factors}
@@ -21,22 +20,18 @@ large R a f i n t e h l k p =
     let z = ap (factors R 0) (let w : i + 1 + (n - (i + 1)) ≡ n = omega arith in w) ∙ tree_factors R n t p in
     omega arith
 
-pub returns-in_err-all : goal.returns-in_err-all
-returns-in_err-all c =
+pub returns-in_default : goal.returns-in_default
+returns-in_default c =
     let R = seen c.args.tree.rows in
     let big = large R c.loop-i.all c.factor_at.result c.loop-i.i c.args.tree.count in
     record {
-      by_tree = λ t p.
-          subst (λ (r : Option ℕ). SomeIff r (product t < 2 ^ 64) (product t)) (sym c.from_residual.ensures)
-          (λ l. omega (arith, big t c.loop-i.invariant.0 c.factor_at.ensures (omega arith) c.in_err-all.ensures p));
-      by_finds = λ f t s.
-          subst (Counted f) (sym c.from_residual.ensures)
-          (product t, number_fitting f t s.exact s.sound, big t c.loop-i.invariant.0 c.factor_at.ensures (omega arith) c.in_err-all.ensures s.holds);
+      by_tree = λ t p l. omega (arith, big t c.loop-i.invariant.0 c.factor_at.ensures (omega arith) c.in_default.ensures p);
+      by_finds = λ f t s. (product t, number_fitting f t s.exact s.sound, big t c.loop-i.invariant.0 c.factor_at.ensures (omega arith) c.in_default.ensures s.holds);
     }
 
 pub loop-i-preserved : goal.loop-i-preserved
 loop-i-preserved c =
-    let h = c.in_ok-all.ensures in
+    let h = c.in-Some.ensures in
     (h.1 ∙ more (seen c.args.tree.rows) c.loop-i.all c.factor_at.result c.loop-i.i c.loop-i.invariant.0 c.factor_at.ensures, omega arith)
 
 pub returns : goal.returns
