@@ -24,14 +24,14 @@ use Rattle.trees.proofs.Finding.{had_standing}
 use Rattle.trees.proofs.Sets.{same_set, sound_kids}
 use Rattle.trees.proofs.Standing.{kids_size}
 use Rattle.trees.proofs.Allowing.{sizes_mixed}
-use Rattle.arrayvec.specs.ArrayVec.{ArrayVec, array_vec_len}
+use Rattle.changes.specs.declared.bunch.Bunch.{Bunch}
 use Rattle.changes.specs.declared.shares.Share.{Share}
 use Rattle.changes.specs.declared.shares.Share.TheVariants.{Empty, Partial, Full}
 use Rattle.changes.specs.declared.draft.Spot.{Spot}
 use Rattle.changes.specs.declared.opening.Layout.{Layout}
-use Rattle.changes.specs.Bunches.{AllStand, weight}
+use Rattle.changes.specs.Bunches.{listed, AllStand, weight}
 use Rattle.changes.specs.Draft.{Kept, Rebuilt}
-use Rattle.changes.specs.Layouts.{Bunched, Picked, Apart}
+use Rattle.changes.specs.Layouts.{Picked, Apart}
 use Rattle.changes.specs.Written.{first_in, Headed, Room, Wrote}
 use Rattle.changes.proofs.Keeping.{Keeps, keeps_cut}
 use Rattle.changes.proofs.Laying.{room_less}
@@ -93,7 +93,7 @@ rebuilt_join {S = S} {T = T} at {first = first} {next = next} k ts s i h e f l w
 -- ---- by the cells of its branches
 
 -- The branches of the part have their roots in the cells cs, which were set apart by their share of the kind.
-module _ (whole_part : Subtree) {m : ℕ} {u : ArrayVec ℕ} {cs : List ℕ} (f : cs ≡ u.items) (g : (t : Tree) → Is whole_part t → Bunched whole_part.rows whole_part.count u (kids t)) {l : Layout} (a : Apart whole_part.rows.sets.now m cs l) where
+module _ (whole_part : Subtree) {m : ℕ} {us cs : List ℕ} (f : cs ≡ us) (g : (t : Tree) → Is whole_part t → Parts (seen whole_part.rows) whole_part.count us (kids t)) {l : Layout} (a : Apart whole_part.rows.sets.now m cs l) where
   abbrev v : View
   v = whole_part.rows
 
@@ -106,16 +106,16 @@ module _ (whole_part : Subtree) {m : ℕ} {u : ArrayVec ℕ} {cs : List ℕ} (f 
   abbrev s : Stands v n i
   s = had_standing whole_part.stands
 
-  apart_parts : (want : Share) (w : ArrayVec ℕ) → Picked v.sets.now m cs want w → (xs : List ℕ) → xs ≡ w.items → (t : Tree) → Is whole_part t → Sound t → Parts (seen v) n xs (sel (has m) (told true want) (kids t))
+  apart_parts : (want : Share) (w : Bunch) → Picked v.sets.now m cs want w → (xs : List ℕ) → xs ≡ listed w → (t : Tree) → Is whole_part t → Sound t → Parts (seen v) n xs (sel (has m) (told true want) (kids t))
   apart_parts want w c xs e t p q = rw e (picked_bunch v n (has m) true m (mask_has m) cs (kids t) (rw f (g t p)) (sound_kids t q) want w c)
 
-  pub bare_parts : (xs : List ℕ) → xs ≡ l.first.items → (t : Tree) → Is whole_part t → Sound t → Parts (seen v) n xs (sel (has m) bare (kids t))
+  pub bare_parts : (xs : List ℕ) → xs ≡ listed l.first → (t : Tree) → Is whole_part t → Sound t → Parts (seen v) n xs (sel (has m) bare (kids t))
   bare_parts = apart_parts Empty l.first a.first
 
-  pub partial_parts : (xs : List ℕ) → xs ≡ l.middle.items → (t : Tree) → Is whole_part t → Sound t → Parts (seen v) n xs (sel (has m) part (kids t))
+  pub partial_parts : (xs : List ℕ) → xs ≡ listed l.middle → (t : Tree) → Is whole_part t → Sound t → Parts (seen v) n xs (sel (has m) part (kids t))
   partial_parts = apart_parts Partial l.middle a.middle
 
-  pub full_parts : (xs : List ℕ) → xs ≡ l.last.items → (t : Tree) → Is whole_part t → Sound t → Parts (seen v) n xs (sel (has m) full (kids t))
+  pub full_parts : (xs : List ℕ) → xs ≡ listed l.last → (t : Tree) → Is whole_part t → Sound t → Parts (seen v) n xs (sel (has m) full (kids t))
   full_parts = apart_parts Full l.last a.last
 
   abbrev ts : Trees
@@ -127,16 +127,16 @@ module _ (whole_part : Subtree) {m : ℕ} {u : ArrayVec ℕ} {cs : List ℕ} (f 
   apart_stand : (q : Status) (xs : List ℕ) → Parts (seen v) n xs (sel (has m) q ts) → AllStand v n xs
   apart_stand q xs p = record { long = s.long; few = s.few; trees = sel (has m) q ts; parts = p; sound = sel_sounds (has m) q ts sounds }
 
-  pub bare_stand : (xs : List ℕ) → xs ≡ l.first.items → AllStand v n xs
+  pub bare_stand : (xs : List ℕ) → xs ≡ listed l.first → AllStand v n xs
   bare_stand xs e = apart_stand bare xs (bare_parts xs e s.tree s.part s.sound)
 
-  pub partial_stand : (xs : List ℕ) → xs ≡ l.middle.items → AllStand v n xs
+  pub partial_stand : (xs : List ℕ) → xs ≡ listed l.middle → AllStand v n xs
   partial_stand xs e = apart_stand part xs (partial_parts xs e s.tree s.part s.sound)
 
-  pub full_stand : (xs : List ℕ) → xs ≡ l.last.items → AllStand v n xs
+  pub full_stand : (xs : List ℕ) → xs ≡ listed l.last → AllStand v n xs
   full_stand xs e = apart_stand full xs (full_parts xs e s.tree s.part s.sound)
 
-  module _ (d : (seen v).sort i ≡ 1) (h : (t : Tree) → Is whole_part t → 2 ≤ heavy (has m) (kids t)) (ys zs : List ℕ) (y : ys ≡ l.middle.items) (z : zs ≡ l.last.items) where
+  module _ (d : (seen v).sort i ≡ 1) (h : (t : Tree) → Is whole_part t → 2 ≤ heavy (has m) (kids t)) (ys zs : List ℕ) (y : ys ≡ listed l.middle) (z : zs ≡ listed l.last) where
     pub two_heavy : 2 ≤ length ys + length zs
     two_heavy =
         let b = parts_len (seen v) n ys (sel (has m) part ts) (partial_parts ys y s.tree s.part s.sound) in
@@ -158,13 +158,13 @@ module _ (whole_part : Subtree) {m : ℕ} {u : ArrayVec ℕ} {cs : List ℕ} (f 
     pub room_heavy : (o : ℕ) → o + 2 * ones ((seen v).set i) ≤ 255 → o + 2 * (weight v.sets.now ys + weight v.sets.now zs) ≤ 255
     room_heavy o r = omega (arith, whole)
 
-    pub room_bares : {at : Spot} → Room at (2 * ones ((seen v).set i)) → (xs : List ℕ) → xs ≡ l.first.items → Room at (2 * weight v.sets.now xs)
+    pub room_bares : {at : Spot} → Room at (2 * ones ((seen v).set i)) → (xs : List ℕ) → xs ≡ listed l.first → Room at (2 * weight v.sets.now xs)
     room_bares r xs e =
         let b = parts_weight v n xs (sel (has m) bare ts) (bare_parts xs e s.tree s.part s.sound) (sel_sounds (has m) bare ts sounds) in
         room_less _ _ (omega (arith, whole)) r
 
     -- Behind the bare ones too, if there are any.
-    pub room_joined : {R : Cells} {at next : Spot} → Room at (2 * ones ((seen v).set i)) → 0 < array_vec_len l.first → (xs : List ℕ) → xs ≡ l.first.items →
+    pub room_joined : {R : Cells} {at next : Spot} → Room at (2 * ones ((seen v).set i)) → 0 < length (listed l.first) → (xs : List ℕ) → xs ≡ listed l.first →
         ((ts : Trees) → Parts (seen v) n xs ts → Wrote R at next ts) → next.cell + 2 * (weight v.sets.now ys + weight v.sets.now zs) ≤ 255
     room_joined r b xs e w =
         let es = sel (has m) bare ts in
@@ -174,11 +174,11 @@ module _ (whole_part : Subtree) {m : ℕ} {u : ArrayVec ℕ} {cs : List ℕ} (f 
         let k = room_after es _ (2 * (weight v.sets.now ys + weight v.sets.now zs) + 1) (w es p) (sel_goods (has m) bare ts sounds.good) (omega (arith, whole)) r in
         omega (arith, k.fits)
 
-  pub some_bare : 0 < array_vec_len l.first → (t : Tree) → Is whole_part t → Sound t → 0 < len (sel (has m) bare (kids t))
-  some_bare b t p q = omega (arith, parts_len (seen v) n l.first.items (sel (has m) bare (kids t)) (bare_parts l.first.items refl t p q))
+  pub some_bare : 0 < length (listed l.first) → (t : Tree) → Is whole_part t → Sound t → 0 < len (sel (has m) bare (kids t))
+  some_bare b t p q = omega (arith, parts_len (seen v) n (listed l.first) (sel (has m) bare (kids t)) (bare_parts (listed l.first) refl t p q))
 
-  pub none_bare : array_vec_len l.first ≡ 0 → (t : Tree) → Is whole_part t → Sound t → sel (has m) bare (kids t) ≡ none
-  none_bare b t p q = go (sel (has m) bare (kids t)) (omega (arith, parts_len (seen v) n l.first.items (sel (has m) bare (kids t)) (bare_parts l.first.items refl t p q)))
+  pub none_bare : length (listed l.first) ≡ 0 → (t : Tree) → Is whole_part t → Sound t → sel (has m) bare (kids t) ≡ none
+  none_bare b t p q = go (sel (has m) bare (kids t)) (omega (arith, parts_len (seen v) n (listed l.first) (sel (has m) bare (kids t)) (bare_parts (listed l.first) refl t p q)))
     where
       go : (es : Trees) → len es ≡ 0 → es ≡ none
       go none h = refl

@@ -1,5 +1,5 @@
 -- The layout that is found by the shares of cells is one by which the tree is laid open.
-use Rattle.std.proofs.Common.{◌≡◌, ℕ, ◌<◌, ◌≤◌, Bool, true, false, not, eqb, List, [], reverse, Some, None, sym, refl, ap, ◌∙◌, subst, inl, inr, arith}
+use Rattle.std.proofs.Common.{◌≡◌, ℕ, ◌<◌, ◌≤◌, Bool, true, false, not, eqb, List, [], length, reverse, Some, None, sym, refl, ap, ◌∙◌, subst, inl, inr, arith}
 use Rattle.finds.specs.Trees.{Tree, grave, any, row, Trees, none, more, Mixed, len}
 use Rattle.finds.specs.Branches.{◌+++◌, revs}
 use Rattle.finds.proofs.Branches.{plus_none, mixed_refl, mixed_revs}
@@ -15,11 +15,11 @@ use Rattle.trees.specs.Rows.{seen}
 use Rattle.trees.specs.declared.rows.View.{View}
 use Rattle.trees.proofs.Cells.{parts_len, parts_rev}
 use Rattle.trees.proofs.Sets.{sound_kids, sounds_cut}
-use Rattle.arrayvec.specs.ArrayVec.{ArrayVec, array_vec_len}
+use Rattle.changes.specs.declared.bunch.Bunch.{Bunch}
 use Rattle.changes.specs.declared.shares.Share.{Share}
 use Rattle.changes.specs.declared.shares.Share.TheVariants.{Empty, Partial, Full}
 use Rattle.changes.specs.declared.opening.Layout.{Layout}
-use Rattle.changes.specs.Bunches.{AllStand}
+use Rattle.changes.specs.Bunches.{listed, AllStand}
 use Rattle.changes.specs.Layouts.{Bunched, Picked, Apart, Lays, InSequence}
 use Rattle.changes.specs.Shares.{in_order}
 use Rattle.changes.proofs.Telling.{count_size, told, picked, ordered}
@@ -69,11 +69,11 @@ sel_sounds k s ts h = go s
     go full = second.1
 
 -- No cell is the root of no tree.
-none_bunched : (v : View) (n : ℕ) (z : ArrayVec ℕ) → z.items ≡ [] → Bunched v n z none
+none_bunched : (v : View) (n : ℕ) (z : Bunch) → listed z ≡ [] → Bunched v n z none
 none_bunched v n z h = rw h tt
 
 -- All branches of a row stand in the middle.
-laying : (v : View) (n : ℕ) (k : ℕ → Bool) (b : Bool) (ts us : Trees) (u y z : ArrayVec ℕ) → y.items ≡ [] → z.items ≡ [] → Bunched v n u us → Mixed ts us → open_up k b (row ts) ≡ open_all k b us →
+laying : (v : View) (n : ℕ) (k : ℕ → Bool) (b : Bool) (ts us : Trees) (u y z : Bunch) → listed y ≡ [] → listed z ≡ [] → Bunched v n u us → Mixed ts us → open_up k b (row ts) ≡ open_all k b us →
     Lays v n k b (row ts) (record { first = y; middle = u; last = z })
 laying v n k b ts us u y z g h q x e = record {
   firsts = none;
@@ -88,17 +88,17 @@ laying v n k b ts us u y z g h q x e = record {
 
 module _ (v : View) (n : ℕ) (k : ℕ → Bool) (b : Bool) (m : ℕ) (w : Mask k b m) (cs : List ℕ) (ts : Trees) (p : Parts (seen v) n cs ts) (s : Sounds ts) where
   -- What was picked are the branches of that status.
-  pub picked_bunch : (want : Share) (u : ArrayVec ℕ) → Picked v.sets.now m cs want u → Bunched v n u (sel k (told b want) ts)
+  pub picked_bunch : (want : Share) (u : Bunch) → Picked v.sets.now m cs want u → Bunched v n u (sel k (told b want) ts)
   picked_bunch want u q = rw q (picked k b m w v n want cs ts p s)
 
   -- There are so many of them.
-  pub picked_len : (want : Share) (u : ArrayVec ℕ) → Picked v.sets.now m cs want u → array_vec_len u ≡ len (sel k (told b want) ts)
-  picked_len want u q = parts_len (seen v) n u.items (sel k (told b want) ts) (picked_bunch want u q)
+  pub picked_len : (want : Share) (u : Bunch) → Picked v.sets.now m cs want u → length (listed u) ≡ len (sel k (told b want) ts)
+  picked_len want u q = parts_len (seen v) n (listed u) (sel k (told b want) ts) (picked_bunch want u q)
 
-  pub any_stuck : status k (any ts) ≡ part → (l : Layout) → Apart v.sets.now m cs l → 1 < array_vec_len l.middle → open_up k b (any ts) ≡ stuck
+  pub any_stuck : status k (any ts) ≡ part → (l : Layout) → Apart v.sets.now m cs l → 1 < length (listed l.middle) → open_up k b (any ts) ≡ stuck
   any_stuck e l q h = rw (e, many_len (sel k part ts) (omega (arith, picked_len Partial l.middle q.middle)))
 
-  pub any_layout : status k (any ts) ≡ part → (l : Layout) → Apart v.sets.now m cs l → array_vec_len l.middle ≤ 1 → Lays v n k b (any ts) l
+  pub any_layout : status k (any ts) ≡ part → (l : Layout) → Apart v.sets.now m cs l → length (listed l.middle) ≤ 1 → Lays v n k b (any ts) l
   any_layout e l q h = record {
     firsts = sel k (far b) ts;
     middles = sel k part ts;
@@ -122,7 +122,7 @@ module _ (v : View) (n : ℕ) (k : ℕ → Bool) (b : Bool) (m : ℕ) (w : Mask 
   row_stuck e q = rw (e, sym straight ∙ q.0, sym back ∙ q.1)
 
   -- The branches all stand in the middle, as they are or turned round.
-  pub row_layout : status k (row ts) ≡ part → (u y z : ArrayVec ℕ) → y.items ≡ [] → z.items ≡ [] → InSequence v.sets.now m cs (Some u) → Lays v n k b (row ts) (record { first = y; middle = u; last = z })
+  pub row_layout : status k (row ts) ≡ part → (u y z : Bunch) → listed y ≡ [] → listed z ≡ [] → InSequence v.sets.now m cs (Some u) → Lays v n k b (row ts) (record { first = y; middle = u; last = z })
   row_layout e u y z g h (inl q) =
       laying v n k b ts ts u y z g h (rw q.1 p) (mixed_refl ts) (rw (e, sym straight ∙ q.0))
   row_layout e u y z g h (inr q) =
@@ -135,13 +135,13 @@ grave_whole k g e = let z = status_says k (grave g) e in let y = count_size k tr
 
 module _ (v : View) (n i : ℕ) (k : ℕ → Bool) (b : Bool) (m : ℕ) (w : Mask k b m) (cs : List ℕ) where
   pub layout_many : (t : Tree) → Part (seen v) n i t → Sound t → Parts (seen v) n cs (kids t) → status k t ≡ part → (seen v).sort i ≡ 1 →
-      (l : Layout) → Apart v.sets.now m cs l → 1 < array_vec_len l.middle → open_up k b t ≡ stuck
+      (l : Layout) → Apart v.sets.now m cs l → 1 < length (listed l.middle) → open_up k b t ≡ stuck
   layout_many (grave g) q s p e d l f h = absurd (grave_whole k g e)
   layout_many (any ts) q s p e d l f h = any_stuck v n k b m w cs ts p (sound_kids (any ts) s) e l f h
   layout_many (row ts) q s p e d l f h = absurd (omega (arith, q.0.0))
 
   pub layout_any : (t : Tree) → Part (seen v) n i t → Sound t → Parts (seen v) n cs (kids t) → status k t ≡ part → (seen v).sort i ≡ 1 →
-      (l : Layout) → Apart v.sets.now m cs l → array_vec_len l.middle ≤ 1 → Lays v n k b t l
+      (l : Layout) → Apart v.sets.now m cs l → length (listed l.middle) ≤ 1 → Lays v n k b t l
   layout_any (grave g) q s p e d l f h = absurd (grave_whole k g e)
   layout_any (any ts) q s p e d l f h = any_layout v n k b m w cs ts p (sound_kids (any ts) s) e l f h
   layout_any (row ts) q s p e d l f h = absurd (omega (arith, q.0.0))
@@ -153,7 +153,7 @@ module _ (v : View) (n i : ℕ) (k : ℕ → Bool) (b : Bool) (m : ℕ) (w : Mas
   layout_stuck (row ts) q s p e d h = row_stuck v n k b m w cs ts p (sound_kids (row ts) s) e h
 
   pub layout_row : (t : Tree) → Part (seen v) n i t → Sound t → Parts (seen v) n cs (kids t) → status k t ≡ part → ((seen v).sort i ≡ 1 → ⊥) →
-      (u y z : ArrayVec ℕ) → y.items ≡ [] → z.items ≡ [] → InSequence v.sets.now m cs (Some u) → Lays v n k b t (record { first = y; middle = u; last = z })
+      (u y z : Bunch) → listed y ≡ [] → listed z ≡ [] → InSequence v.sets.now m cs (Some u) → Lays v n k b t (record { first = y; middle = u; last = z })
   layout_row (grave g) q s p e d u y z f g' h = absurd (grave_whole k g e)
   layout_row (any ts) q s p e d u y z f g h = absurd (d q.0.0)
   layout_row (row ts) q s p e d u y z f g h = row_layout v n k b m w cs ts p (sound_kids (row ts) s) e u y z f g h

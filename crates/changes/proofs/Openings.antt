@@ -1,12 +1,12 @@
 -- A tree laid open as a program does it: a group, one branch after the other, a group.
 use Rattle.std.proofs.Common.{◌≡◌, ℕ, zero, suc, ◌+◌, ◌*◌, ◌<◌, ◌≤◌, Bool, true, not, ◌⊎◌, List, length, get_or, Some, None, Option, refl, ap, ◌∙◌, subst, inl, inr, arith}
 use lib.Count.{ones}
-use Rattle.finds.specs.Trees.{Tree, Trees, none, more, Mixed, no_more, put, Put, first, after, Goods, len}
+use Rattle.finds.specs.Trees.{Tree, grave, any, row, Trees, none, more, Mixed, no_more, put, Put, first, after, Good, Goods, len}
 use Rattle.finds.specs.Sets.{has}
 use Rattle.pqtree.specs.Status.{status}
 use Rattle.pqtree.specs.Opening.{Opening, stuck, laid, ◌⊞◌, open_up, open_all}
 use Rattle.pqtree.proofs.Opening.{laid_none, open_all_plus, open_whole}
-use Rattle.trees.specs.Cells.{size, sizes, Cells, Part, Parts, Sound, Sounds}
+use Rattle.trees.specs.Cells.{size, sizes, kids, Cells, Part, Parts, Sound, Sounds}
 use Rattle.trees.specs.Masks.{Mask}
 use Rattle.trees.specs.Rows.{seen}
 use Rattle.trees.specs.declared.rows.View.{View}
@@ -91,6 +91,12 @@ pub others : (x : ℕ) (ts : Trees) → Goods ts → x < len ts → size (tree_a
 others x none g l = absurd (omega arith)
 others zero (more t ts) g l = let a = goods_len ts g.1 in omega arith
 others (suc x) (more t ts) g l = let a = others x ts g.1 (omega arith) in let b = good_size t g.0 in omega arith
+
+-- A well-formed tree that has branches has two at least, and their graves.
+pub kids_many : (t : Tree) → Good t → 0 < len (kids t) → (2 ≤ len (kids t)) × (sizes (kids t) ≡ size t)
+kids_many (grave g) h l = absurd (omega arith)
+kids_many (any ts) h l = (h.0, refl)
+kids_many (row ts) h l = (omega (arith, h.0), refl)
 
 -- ---- the parts of a list of cells, laid open one behind the other
 

@@ -16,13 +16,11 @@ use Rattle.trees.proofs.Cells.{parts_len}
 use Rattle.trees.proofs.Finding.{had_standing}
 use Rattle.trees.proofs.Sets.{sound_kids}
 use Rattle.trees.proofs.Standing.{part_size, kids_size}
-use Rattle.arrayvec.specs.ArrayVec.{ArrayVec}
 use Rattle.changes.specs.declared.shares.Share.{Share}
 use Rattle.changes.specs.declared.shares.Share.TheVariants.{Empty, Partial, Full}
 use Rattle.changes.specs.declared.draft.Spot.{Spot}
 use Rattle.changes.specs.Bunches.{weight}
 use Rattle.changes.specs.Draft.{Kept}
-use Rattle.changes.specs.Layouts.{Bunched}
 use Rattle.changes.specs.Shares.{share, EmptyFirst}
 use Rattle.changes.specs.Written.{Room, Wrote, Opened, laid_at}
 use Rattle.changes.proofs.Fronts.{front, tree_at, back, front_goods, part_at, sound_at, parts_front, parts_back, sounds_front, sounds_back, three_sizes, three_len}
@@ -79,7 +77,7 @@ told_bare Partial e = absurd (let z : ◌≡◌ {A = ℕ} 0 1 = cc in omega arit
 told_bare Full e = absurd (let z : ◌≡◌ {A = ℕ} 0 1 = cc in omega arith)
 
 -- The branches of the part have their roots in the cells cs, of which the first x have nothing of the kind.
-module _ (part : Subtree) {m x : ℕ} {u : ArrayVec ℕ} {cs : List ℕ} (f : cs ≡ u.items) (g : (t : Tree) → Is part t → Bunched part.rows part.count u (kids t)) (e : EmptyFirst part.rows.sets.now m cs x) where
+module _ (part : Subtree) {m x : ℕ} {us cs : List ℕ} (f : cs ≡ us) (g : (t : Tree) → Is part t → Parts (seen part.rows) part.count us (kids t)) (e : EmptyFirst part.rows.sets.now m cs x) where
   abbrev v : View
   v = part.rows
 

@@ -1,9 +1,14 @@
 -- Lists of cells that are the roots of trees.
-use Rattle.std.specs.Prelude.{ℕ, ◌+◌, ◌≤◌, List, [], ◌∷◌, count_ones, slice_index}
+use Rattle.std.specs.Prelude.{ℕ, ◌+◌, ◌≤◌, List, [], ◌∷◌, take, count_ones, slice_index}
 use Rattle.finds.specs.Trees.{Trees}
 use Rattle.trees.specs.Cells.{Parts, Sounds}
 use Rattle.trees.specs.Rows.{seen, Long}
 use Rattle.trees.specs.declared.rows.View.{View}
+use Rattle.changes.specs.declared.bunch.Bunch.{Bunch}
+
+-- The cells of a bunch.
+abbrev pub listed : Bunch → List ℕ
+listed b = take b.many b.cells
 
 -- The cells are the roots of sound trees, no two of which have a grave in common.
 pub record AllStand (v : View) (n : ℕ) (cs : List ℕ) : Type 0 where

@@ -1,6 +1,7 @@
 // Changing a tree in lent rows for one kind more.
 #![tactic(auto)]
 
+pub mod bunch;
 pub mod draft;
 pub mod opening;
 pub mod parts;

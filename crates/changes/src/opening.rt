@@ -1,6 +1,6 @@
 // Laying a partial tree open into a row of branches.
 ghost use Rattle.std.specs.Prelude.{◌≡◌, ℕ, ◌+◌, ◌*◌, Bool, count_ones};
-ghost use Rattle.changes.specs.Bunches.{AllStand, weight};
+ghost use Rattle.changes.specs.Bunches.{listed, AllStand, weight};
 ghost use Rattle.changes.specs.Layouts.{Apart, Bunched, InSequence, LayoutOf};
 ghost use Rattle.changes.specs.Parts.{Are};
 ghost use Rattle.changes.specs.Draft.{drafted, Kept};
@@ -12,14 +12,15 @@ ghost use Rattle.trees.specs.Cells.{kids, Sound, Sounds};
 ghost use Rattle.trees.specs.Masks.{Mask};
 ghost use Rattle.trees.specs.Subtrees.{Is, set_at};
 
+use crate::bunch::Bunch;
 use crate::draft::{Draft, Spot, copy, group};
-use crate::parts::{Bunch, Parts};
+use crate::parts::Parts;
 use crate::shares::{Share, share_of};
 use trees::rows::Sort;
 use trees::subtree::Subtree;
 
 // The branches of a partial tree in the order in which it is laid open: the first as one branch, those in the middle each laid open, the last as one branch.
-#[derive(Drop)]
+#[derive(Clone, Copy)]
 pub struct Layout {
     pub first: Bunch,
     pub middle: Bunch,
@@ -28,7 +29,7 @@ pub struct Layout {
 
 // The branches of the part, in their order.
 pub(crate) fn branches_of(part: Subtree) -> Bunch
-    ensures stand { AllStand part.entry.rows part.entry.count result.items }
+    ensures stand { AllStand part.entry.rows part.entry.count (listed result) }
     ensures branches { (t : Tree) → Is part.entry t → Bunched part.entry.rows part.entry.count result (kids t) }
 {
     let mut cells = Bunch::new();
@@ -50,16 +51,16 @@ pub(crate) fn set_apart(parts: Parts, mask: u64) -> Layout
 }
 
 // The branches of the part in sequence, as they are or turned round.
-pub(crate) fn sequence(part: Subtree, mut cells: Bunch, mask: u64) -> Option<Bunch>
-    requires { AllStand part.rows part.count cells.items }
-    ensures { InSequence part.entry.rows.sets.now mask cells.items result }
+pub(crate) fn sequence(part: Subtree, cells: Bunch, mask: u64) -> Option<Bunch>
+    requires { AllStand part.rows part.count (listed cells) }
+    ensures { InSequence part.entry.rows.sets.now mask (listed cells) result }
 {
     if Parts::of(part, cells.as_slice()).in_sequence(mask) {
         return Some(cells);
     }
-    cells.reverse();
-    if Parts::of(part, cells.as_slice()).in_sequence(mask) {
-        return Some(cells);
+    let turned = cells.turned();
+    if Parts::of(part, turned.as_slice()).in_sequence(mask) {
+        return Some(turned);
     }
     None
 }

@@ -1,16 +1,13 @@
 // Some parts of a tree, and how much of a kind they have.
 ghost use Rattle.std.specs.Prelude.{◌≡◌, ◌<◌, ◌≤◌, false, length, take, drop, filter, slice_index};
 ghost use Rattle.std.specs.List.{All};
-ghost use Rattle.changes.specs.Bunches.{AllStand};
+ghost use Rattle.changes.specs.Bunches.{listed, AllStand};
 ghost use Rattle.changes.specs.Shares.{share, has_share, FirstWith, in_order, union_of};
 
+pub use crate::bunch::Bunch;
 use crate::shares::{Share, share_of};
-use arrayvec::ArrayVec;
 use trees::rows::View;
 use trees::subtree::Subtree;
-
-// Some cells: a tree has 64 branches at most.
-pub type Bunch = ArrayVec<u8, 64>;
 
 // Some parts of one tree, by the cells of their roots.
 #[derive(Clone, Copy, Drop)]
@@ -75,7 +72,7 @@ impl<'a> Parts<'a> {
 
     // Those that have this share of the mask, in their order.
     pub(crate) fn pick(self, mask: u64, want: Share) -> Bunch
-        ensures { result.items ≡ filter (has_share self.entry.rows.sets.now mask want) self.entry.cells.now }
+        ensures { listed result ≡ filter (has_share self.entry.rows.sets.now mask want) self.entry.cells.now }
     {
         let mut picked = Bunch::new();
         for cell in self.cells {

@@ -62,7 +62,9 @@ pub fn change(rows: &mut Rows, count: usize, kind: u64) -> Option<usize>
         rows: rows.view(),
         count,
     };
-    let count = redraw(tree, kind, &mut draft)?;
+    let Some(count) = redraw(tree, kind, &mut draft) else {
+        return None;
+    };
     back(&draft, count, rows);
     Some(count)
 }

@@ -76,17 +76,17 @@ lay_open-returns-in_err-layout-clause-opened t c = λ k b w u p s. rw c.from_res
 
 pub lay_open-of-requires : goal.lay_open-of-requires
 lay_open-of-requires t c =
-    first_stand c.args.part.rows _ _ _ (c.in-Partial.ensures ∙ ap (λ (x : ℕ). share x c.args.mask) c.graves.ensures) c.in_ok-layout.layout c.in_ok-layout.ensures (had_standing c.args.part.stands) _ c.as_slice.ensures.value
+    first_stand c.args.part.rows _ _ _ (c.in-Partial.ensures ∙ ap (λ (x : ℕ). share x c.args.mask) c.graves.ensures) c.in_ok-layout.layout c.in_ok-layout.ensures (had_standing c.args.part.stands) _ c.as_slice.ensures
 
 pub lay_open-group-next-requires : goal.lay_open-group-next-requires
 lay_open-group-next-requires t c =
     let e = c.in-Partial.ensures ∙ ap (λ (x : ℕ). share x c.args.mask) c.graves.ensures in
     to_parts (λ (v : View) (n : ℕ) (cs : List ℕ). Room c.args.at (2 * weight v.sets.now cs + 1)) c.of.ensures
-    (room_first c.args.part.rows _ _ _ e c.in_ok-layout.layout c.in_ok-layout.ensures (had_standing c.args.part.stands) _ c.as_slice.ensures.value c.requires)
+    (room_first c.args.part.rows _ _ _ e c.in_ok-layout.layout c.in_ok-layout.ensures (had_standing c.args.part.stands) _ c.as_slice.ensures c.requires)
 
 pub lay_open-of-requires-2 : goal.lay_open-of-requires-2
 lay_open-of-requires-2 t c =
-    middle_stand c.args.part.rows _ _ _ (c.in-Partial.ensures ∙ ap (λ (x : ℕ). share x c.args.mask) c.graves.ensures) c.in_ok-layout.layout c.in_ok-layout.ensures (had_standing c.args.part.stands) _ c.as_slice-2.ensures.value
+    middle_stand c.args.part.rows _ _ _ (c.in-Partial.ensures ∙ ap (λ (x : ℕ). share x c.args.mask) c.graves.ensures) c.in_ok-layout.layout c.in_ok-layout.ensures (had_standing c.args.part.stands) _ c.as_slice-2.ensures
 
 pub lay_open-lay_each-requires : goal.lay_open-lay_each-requires
 lay_open-lay_each-requires t c =
@@ -94,8 +94,8 @@ lay_open-lay_each-requires t c =
     let s = had_standing c.args.part.stands in
     let e = c.in-Partial.ensures ∙ ap (λ (x : ℕ). share x c.args.mask) c.graves.ensures in
     let h = c.in_ok-layout.ensures in
-    let f = c.as_slice.ensures.value in
-    let d = c.as_slice-2.ensures.value in (
+    let f = c.as_slice.ensures in
+    let d = c.as_slice-2.ensures in (
       to_parts (λ (v : View) (n : ℕ) (cs : List ℕ). 2 * (weight v.sets.now cs - length cs) + 3 < t) c.of-2.ensures (omega (arith, lighter c.args.part.rows _ _ _ e l h s _ d, c.decreases)),
       to_parts (λ (v : View) (n : ℕ) (cs : List ℕ). Room c.group-next.result (2 * weight v.sets.now cs + 1)) c.of-2.ensures
           (room_middle c.args.part.rows _ _ _ e l h s _ _ f d (grouped c.of.ensures c.group-next.ensures.grouped) c.requires),
@@ -104,35 +104,35 @@ lay_open-lay_each-requires t c =
 pub lay_open-returns-in_err-next-clause-kept : goal.lay_open-returns-in_err-next-clause-kept
 lay_open-returns-in_err-next-clause-kept t c =
     let e = c.in-Partial.ensures ∙ ap (λ (x : ℕ). share x c.args.mask) c.graves.ensures in
-    kept_first c.args.part.rows _ _ _ e c.in_ok-layout.layout c.in_ok-layout.ensures (had_standing c.args.part.stands) _ _ c.as_slice.ensures.value c.as_slice-2.ensures.value
+    kept_first c.args.part.rows _ _ _ e c.in_ok-layout.layout c.in_ok-layout.ensures (had_standing c.args.part.stands) _ _ c.as_slice.ensures c.as_slice-2.ensures
     (grouped c.of.ensures c.group-next.ensures.grouped) c.group-next.ensures.kept c.in_err-next.ensures.kept
 
 pub lay_open-returns-in_err-next-clause-opened : goal.lay_open-returns-in_err-next-clause-opened
 lay_open-returns-in_err-next-clause-opened t c =
     let e = c.in-Partial.ensures ∙ ap (λ (x : ℕ). share x c.args.mask) c.graves.ensures in
     rw c.from_residual-in_err-next.ensures
-    (laid_not c.args.part.rows _ _ _ e c.in_ok-layout.layout c.in_ok-layout.ensures c.args.at _ c.as_slice-2.ensures.value (all_found c.of-2.ensures c.in_err-next.ensures.opened))
+    (laid_not c.args.part.rows _ _ _ e c.in_ok-layout.layout c.in_ok-layout.ensures c.args.at _ c.as_slice-2.ensures (all_found c.of-2.ensures c.in_err-next.ensures.opened))
 
 pub lay_open-of-requires-3 : goal.lay_open-of-requires-3
 lay_open-of-requires-3 t c =
-    last_stand c.args.part.rows _ _ _ (c.in-Partial.ensures ∙ ap (λ (x : ℕ). share x c.args.mask) c.graves.ensures) c.in_ok-layout.layout c.in_ok-layout.ensures (had_standing c.args.part.stands) _ c.as_slice-3.ensures.value
+    last_stand c.args.part.rows _ _ _ (c.in-Partial.ensures ∙ ap (λ (x : ℕ). share x c.args.mask) c.graves.ensures) c.in_ok-layout.layout c.in_ok-layout.ensures (had_standing c.args.part.stands) _ c.as_slice-3.ensures
 
 pub lay_open-group-requires : goal.lay_open-group-requires
 lay_open-group-requires t c =
     let e = c.in-Partial.ensures ∙ ap (λ (x : ℕ). share x c.args.mask) c.graves.ensures in
     to_parts (λ (v : View) (n : ℕ) (cs : List ℕ). Room c.in_ok-next.next (2 * weight v.sets.now cs + 1)) c.of-3.ensures
-    (room_last c.args.part.rows _ _ _ e c.in_ok-layout.layout c.in_ok-layout.ensures (had_standing c.args.part.stands) _ _ c.as_slice.ensures.value c.as_slice-2.ensures.value
-    (grouped c.of.ensures c.group-next.ensures.grouped) c.requires (all_found c.of-2.ensures c.in_ok-next.ensures.opened) _ c.as_slice-3.ensures.value)
+    (room_last c.args.part.rows _ _ _ e c.in_ok-layout.layout c.in_ok-layout.ensures (had_standing c.args.part.stands) _ _ c.as_slice.ensures c.as_slice-2.ensures
+    (grouped c.of.ensures c.group-next.ensures.grouped) c.requires (all_found c.of-2.ensures c.in_ok-next.ensures.opened) _ c.as_slice-3.ensures)
 
 pub lay_open-returns-clause-kept : goal.lay_open-returns-clause-kept
 lay_open-returns-clause-kept t c =
     let e = c.in-Partial.ensures ∙ ap (λ (x : ℕ). share x c.args.mask) c.graves.ensures in
-    kept_all c.args.part.rows _ _ _ e c.in_ok-layout.layout c.in_ok-layout.ensures (had_standing c.args.part.stands) _ _ c.as_slice.ensures.value c.as_slice-2.ensures.value
+    kept_all c.args.part.rows _ _ _ e c.in_ok-layout.layout c.in_ok-layout.ensures (had_standing c.args.part.stands) _ _ c.as_slice.ensures c.as_slice-2.ensures
     (grouped c.of.ensures c.group-next.ensures.grouped) (all_found c.of-2.ensures c.in_ok-next.ensures.opened) c.group-next.ensures.kept c.in_ok-next.ensures.kept c.group.ensures.kept
 
 pub lay_open-returns-clause-opened : goal.lay_open-returns-clause-opened
 lay_open-returns-clause-opened t c =
     let e = c.in-Partial.ensures ∙ ap (λ (x : ℕ). share x c.args.mask) c.graves.ensures in
-    laid_open c.args.part.rows _ _ _ e c.in_ok-layout.layout c.in_ok-layout.ensures _ _ _ c.as_slice.ensures.value c.as_slice-2.ensures.value c.as_slice-3.ensures.value
+    laid_open c.args.part.rows _ _ _ e c.in_ok-layout.layout c.in_ok-layout.ensures _ _ _ c.as_slice.ensures c.as_slice-2.ensures c.as_slice-3.ensures
     (grouped c.of.ensures c.group-next.ensures.grouped) c.in_ok-next.ensures.kept (all_found c.of-2.ensures c.in_ok-next.ensures.opened) c.group.ensures.kept
     (grouped c.of-3.ensures c.group.ensures.grouped)

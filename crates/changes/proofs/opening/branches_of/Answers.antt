@@ -23,12 +23,12 @@ push-requires c =
     let x = going_next c.loop-branch.invariant c.in-Some.ensures.steps s.tree s.part in
     let e = ap length x.so ∙ roots_len (suc c.args.part.root) x.done in
     let k = ap len x.is ∙ len_plus x.done (more x.it x.rest) in
-    (omega arith, omega (arith, few_branches (kids s.tree) (sound_kids s.tree s.sound)))
+    omega (arith, few_branches (kids s.tree) (sound_kids s.tree s.sound))
 
 pub loop-branch-preserved : goal.loop-branch-preserved
 loop-branch-preserved c = going_more _ c.loop-branch.invariant c.in-Some.ensures.steps
     (λ t p x.
-    c.push.ensures.items ∙ ap (λ (l : List ℕ). l ++ (c.in-Some.branch.root ∷ [])) x.so ∙ ap (λ (r : ℕ). roots (suc c.args.part.root) x.done ++ (r ∷ [])) x.at
+    c.push.ensures ∙ ap (λ (l : List ℕ). l ++ (c.in-Some.branch.root ∷ [])) x.so ∙ ap (λ (r : ℕ). roots (suc c.args.part.root) x.done ++ (r ∷ [])) x.at
     ∙ sym (roots_plus (suc c.args.part.root) x.done (more x.it none)))
 
 pub returns-clause-stand : goal.returns-clause-stand

@@ -7,20 +7,20 @@ use Rattle.changes.proofs.Passing.{apart_lying}
 use Rattle.changes.proofs.opening.lay_out.Goals as goal
 
 pub of-requires : goal.of-requires
-of-requires c = rw c.as_slice.ensures.value c.branches_of-cells.ensures.stand
+of-requires c = rw c.as_slice.ensures c.branches_of-cells.ensures.stand
 
 pub sequence-requires : goal.sequence-requires
 sequence-requires c = c.branches_of-cells.ensures.stand
 
 pub returns-then-len-gt1 : goal.returns-then-len-gt1
 returns-then-len-gt1 c = λ k b w t p s e.
-    layout_many c.args.part.rows _ _ k b _ w _ t p s (rw c.as_slice.ensures.value (c.branches_of-cells.ensures.branches t p)) e (sym c.sort.ensures ∙ ap code_of (same_sort c.sort.result Any c.if-eq.ensures)) c.set_apart-layout.result
-    (apart_lying c.of.ensures c.set_apart-layout.ensures) (omega (arith, c.len.ensures.value, c.if-len-gt1.true))
+    layout_many c.args.part.rows _ _ k b _ w _ t p s (rw c.as_slice.ensures (c.branches_of-cells.ensures.branches t p)) e (sym c.sort.ensures ∙ ap code_of (same_sort c.sort.result Any c.if-eq.ensures)) c.set_apart-layout.result
+    (apart_lying c.of.ensures c.set_apart-layout.ensures) (omega (arith, c.len.ensures, c.if-len-gt1.true))
 
 pub returns-then-eq : goal.returns-then-eq
 returns-then-eq c = λ k b w t p s e.
-    layout_any c.args.part.rows _ _ k b _ w _ t p s (rw c.as_slice.ensures.value (c.branches_of-cells.ensures.branches t p)) e (sym c.sort.ensures ∙ ap code_of (same_sort c.sort.result Any c.if-eq.ensures)) c.set_apart-layout.result
-    (apart_lying c.of.ensures c.set_apart-layout.ensures) (omega (arith, c.len.ensures.value, c.if-len-gt1.false))
+    layout_any c.args.part.rows _ _ k b _ w _ t p s (rw c.as_slice.ensures (c.branches_of-cells.ensures.branches t p)) e (sym c.sort.ensures ∙ ap code_of (same_sort c.sort.result Any c.if-eq.ensures)) c.set_apart-layout.result
+    (apart_lying c.of.ensures c.set_apart-layout.ensures) (omega (arith, c.len.ensures, c.if-len-gt1.false))
 
 pub returns-in_err-middle : goal.returns-in_err-middle
 returns-in_err-middle c = λ k b w t p s e.

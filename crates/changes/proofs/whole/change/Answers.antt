@@ -16,18 +16,17 @@ returns-then-ties_nothing-clause-changes c = few_changes c.requires c.args.kind 
 pub invariant_of-tree : goal.invariant_of-tree
 invariant_of-tree c = record { holds = ∣ whole_tree c.view.result c.args.count (subst (λ (r : Lent). Holding r c.args.count) (sym c.view.ensures) c.requires) ∣₁ }
 
-pub returns-in_err-count-clause-changes : goal.returns-in_err-count-clause-changes
-returns-in_err-count-clause-changes c =
-    rw c.from_residual.ensures
-    (none_changes c.requires c.args.kind (c.ties_nothing.ensures.many c.if-ties_nothing.false) (drafted c.redraw.new.draft)
-    (λ t h. c.in_err-count.ensures t (subst (λ (r : Lent). Holds (held r) c.args.count t) (sym c.view.ensures) h)))
+pub returns-in_default-clause-changes : goal.returns-in_default-clause-changes
+returns-in_default-clause-changes c =
+    none_changes c.requires c.args.kind (c.ties_nothing.ensures.many c.if-ties_nothing.false) (drafted c.redraw.new.draft)
+    (λ t h. c.in_default.ensures t (subst (λ (r : Lent). Holds (held r) c.args.count t) (sym c.view.ensures) h))
 
 pub back-requires-clause-room : goal.back-requires-clause-room
 back-requires-clause-room c =
     omega (
       arith,
-      made_cells c.requires c.args.kind (c.ties_nothing.ensures.many c.if-ties_nothing.false) (drafted c.redraw.new.draft) c.in_ok-count.count
-          (λ t h. c.in_ok-count.ensures t (subst (λ (r : Lent). Holds (held r) c.args.count t) (sym c.view.ensures) h)),
+      made_cells c.requires c.args.kind (c.ties_nothing.ensures.many c.if-ties_nothing.false) (drafted c.redraw.new.draft) c.in-Some.count
+          (λ t h. c.in-Some.ensures t (subst (λ (r : Lent). Holds (held r) c.args.count t) (sym c.view.ensures) h)),
     )
 
 pub back-requires-clause-long : goal.back-requires-clause-long
@@ -35,14 +34,14 @@ back-requires-clause-long c =
     omega (
       arith,
       c.requires.room,
-      made_cells c.requires c.args.kind (c.ties_nothing.ensures.many c.if-ties_nothing.false) (drafted c.redraw.new.draft) c.in_ok-count.count
-          (λ t h. c.in_ok-count.ensures t (subst (λ (r : Lent). Holds (held r) c.args.count t) (sym c.view.ensures) h)),
+      made_cells c.requires c.args.kind (c.ties_nothing.ensures.many c.if-ties_nothing.false) (drafted c.redraw.new.draft) c.in-Some.count
+          (λ t h. c.in-Some.ensures t (subst (λ (r : Lent). Holds (held r) c.args.count t) (sym c.view.ensures) h)),
     )
 
 pub returns-clause-changes : goal.returns-clause-changes
 returns-clause-changes c =
-    made_changes c.requires c.args.kind (c.ties_nothing.ensures.many c.if-ties_nothing.false) (drafted c.redraw.new.draft) c.in_ok-count.count
-    (λ t h. c.in_ok-count.ensures t (subst (λ (r : Lent). Holds (held r) c.args.count t) (sym c.view.ensures) h))
+    made_changes c.requires c.args.kind (c.ties_nothing.ensures.many c.if-ties_nothing.false) (drafted c.redraw.new.draft) c.in-Some.count
+    (λ t h. c.in-Some.ensures t (subst (λ (r : Lent). Holds (held r) c.args.count t) (sym c.view.ensures) h))
     (lent_rows c.back.new.rows)
     c.back.ensures.kept
     c.back.ensures.rest
