@@ -41,7 +41,7 @@ module _ (f : Finds) (p : Pair) (h : Proper f p) where
       subst (λ (q : Pair). Decides (has set g) (Joint f p q)) (beside_back f.graves p k le) (Decides-like (has set g) (back_joint g).0 (back_joint g).1 (c g l))
 
 -- A pair that clashes with it has a number.
-beside_below : (f : Finds) (p : Pair) (k x : ℕ) → Joint f p (beside f.graves p k) → x ≡ number f.graves (beside f.graves p k) → x < f.graves * f.graves
+pub beside_below : (f : Finds) (p : Pair) (k x : ℕ) → Joint f p (beside f.graves p k) → x ≡ number f.graves (beside f.graves p k) → x < f.graves * f.graves
 beside_below f p k x j e = let z = number_below f (beside f.graves p k) (joint_left (joint_op j)) in omega arith
 
 -- Where a set tells whether they clash, the answer is the number of the pair if it does.

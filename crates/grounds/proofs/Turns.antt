@@ -65,7 +65,7 @@ module _ (s : Search) {f : Finds} {below head : ℕ} {p : Pair} {place : ℕ} (w
   pub shallow_at : get_or s.depths.now cell 0 ≤ s.tail
   shallow_at = let z = w.notes.shallow p w.proper in let y = ap (λ (i : ℕ). get_or s.depths.now i 0) cell_is in omega arith
 
-  painted_at : {t : Search} → Sized f.graves s.depths.now s.parents.now s.queue.now → s.tail < f.graves * f.graves → x < f.graves * f.graves → Unseen s x →
+  pub painted_at : {t : Search} → Sized f.graves s.depths.now s.parents.now s.queue.now → s.tail < f.graves * f.graves → x < f.graves * f.graves → Unseen s x →
       Entered x cell s t → Working f below t.depths.now t.parents.now t.queue.now head t.tail p (place + 1)
   painted_at {t} z wide within unseen e =
       subst (λ (end : ℕ). Working f below t.depths.now t.parents.now t.queue.now head end p (place + 1)) (sym e.tail_is)

@@ -20,6 +20,11 @@ pub record SameCells (before after : Search) : Type 0 where
   pub parents : after.parents.ghost_name ≡ before.parents.ghost_name
   pub queue : after.queue.ghost_name ≡ before.queue.ghost_name
 
+-- No pair of n graves is seen.
+pub record Fresh (n : ℕ) (s : Search) : Type 0 where
+  pub depths_are : s.depths.now ≡ replicate (n * n) 0
+  pub tail_is : s.tail ≡ 0
+
 -- All cells for the pairs of n graves are cleared, and no pair is seen.
 pub record Blank (n : ℕ) (s : Search) : Type 0 where
   pub depths_are : s.depths.now ≡ replicate (n * n) 0

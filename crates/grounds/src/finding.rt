@@ -3,7 +3,7 @@ ghost use Rattle.std.specs.Prelude.{◌≡◌, ◌*◌, ◌≤◌, length, repli
 ghost use Rattle.grounds.specs.Finding.{Found, Cleared};
 ghost use Rattle.grounds.specs.Notebook.{SameNotebook};
 ghost use Rattle.grounds.specs.Neighbours.{finds_in_sets};
-ghost use Rattle.grounds.specs.Searching.{Blank, SameCells, Sized};
+ghost use Rattle.grounds.specs.Searching.{Fresh, SameCells, Sized};
 ghost use Rattle.tables.specs.Format.{finds_of_sets};
 ghost use Rattle.tables.specs.Room.{colours_for, ring_for};
 
@@ -14,7 +14,7 @@ use crate::sets::Sets;
 impl Search<'_> {
     // A ring, written into the lent bytes, or None if some order fits.
     fn write_ring(&mut self, ring: &mut [u8]) -> Option<usize>
-        requires blank { Blank self.old.sets.graves self.old }
+        requires fresh { Fresh self.old.sets.graves self.old }
         requires long { ring_for self.old.sets.graves ≤ length ring.old }
         ensures found { Found (finds_in_sets self.old.sets) ring.old ring.new result }
         ensures same { SameCells self.old self.new }
@@ -24,7 +24,7 @@ impl Search<'_> {
     }
 }
 
-// A ring, found in just a cell for each pair, which are cleared before and after.
+// A ring, found in just a cell for each pair, which are cleared afterwards.
 // They are passed slice by slice: of parts of slices that were put in a struct a proof would know nothing afterwards.
 fn find(
     sets: Sets,
@@ -47,7 +47,7 @@ fn find(
         queue,
         tail: 0,
     };
-    search.clear();
+    search.forget();
     let pairs = search.write_ring(ring);
     search.clear();
     pairs

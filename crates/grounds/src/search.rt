@@ -27,7 +27,16 @@ pub struct Search<'a> {
 }
 
 impl Search<'_> {
-    ghost use Rattle.grounds.specs.Searching.{SameCells, Blank, IsCell, Entered, Met, Searched};
+    ghost use Rattle.grounds.specs.Searching.{SameCells, Fresh, Blank, IsCell, Entered, Met, Searched};
+
+    // Forgets which pairs were seen. Of a pair that is not seen no other cell is read, so the others are left as they are.
+    pub fn forget(&mut self)
+        ensures fresh { Fresh self.old.sets.graves self.new }
+        ensures same { SameCells self.old self.new }
+    {
+        self.depths.fill(0);
+        self.tail = 0;
+    }
 
     // Clears the cells.
     pub fn clear(&mut self)
@@ -76,7 +85,7 @@ impl Search<'_> {
     // Colours the pairs: from each pair that is not seen all pairs that clash with a seen one get the other colour, which is whether the depth is odd.
     // Two clashing pairs of one colour end the search.
     pub fn find_fork(&mut self) -> Option<Fork>
-        requires blank { Blank self.old.sets.graves self.old }
+        requires fresh { Fresh self.old.sets.graves self.old }
         ensures found { Searched (finds_in_sets self.old.sets) self.new result }
         ensures same { SameCells self.old self.new }
     {

@@ -6,4 +6,4 @@ use Rattle.grounds.proofs.finding.find.Goals as goal
 
 pub returns-clause-found : goal.returns-clause-found
 returns-clause-found c =
-    subst (λ (s : Sets). Found (finds_in_sets s) c.args.ring.now c.write_ring-pairs.new.ring c.write_ring-pairs.result) c.clear.ensures.same.sets c.write_ring-pairs.ensures.found
+    subst (λ (s : Sets). Found (finds_in_sets s) c.args.ring.now c.write_ring-pairs.new.ring c.write_ring-pairs.result) c.forget.ensures.same.sets c.write_ring-pairs.ensures.found

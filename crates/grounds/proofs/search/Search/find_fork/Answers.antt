@@ -13,7 +13,7 @@ use Rattle.grounds.proofs.search.Search.find_fork.Goals as goal
 pub search-init : goal.search-init
 search-init c =
     let sets = c.args.self.now.sets in let f = finds_in_sets sets in let h = fewer f.graves sets.some in
-    let b = c.requires.blank in record {
+    let b = c.requires.fresh in record {
       none = refl;
       idle = sym b.tail_is;
       room = (let z = b.tail_is in let y = sets.some in omega arith);
