@@ -5,7 +5,7 @@ ghost use Rattle.std.specs.Prelude.{◌≡◌, ℕ, ◌++◌, List, Some, IfOk, 
 ghost use Rattle.finds.specs.Finds.{Finds};
 ghost use Rattle.finds.specs.Trees.{Tree};
 ghost use Rattle.certain.specs.Shown.{ShownBy};
-ghost use Rattle.report.specs.Answer.{orders_line, pair_text, ring_answer, refusal_answer, verdict_answer, order_verdict_answer, ring_verdict_answer};
+ghost use Rattle.report.specs.Answer.{line_feed, orders_line, pair_text, ring_answer, refusal_answer, verdict_answer, order_verdict_answer, ring_verdict_answer};
 ghost use Rattle.report.specs.Tells.{Tells, Lines};
 
 use certain::near::nearest;
@@ -91,16 +91,16 @@ pub fn refusal_text(heap: Global, refusal: Refusal) -> Result<String, AllocError
     format!(in heap; "{refusal}\n")
 }
 
-// The text of what is amiss, or the word for that nothing is, or want of memory.
+// The text of what is amiss, or the line for that nothing is, or want of memory.
 fn verdict_text<T: Display + Drop>(
     heap: Global,
-    word: &str,
+    line: &str,
     verdict: Option<T>,
 ) -> Result<String, AllocError>
-    ensures { (text : T → List ℕ) → ((v : T) → T.output v ≡ Some (text v)) → IfOk result (λ s. string_bytes s ≡ verdict_answer word.now text verdict) }
+    ensures { (word : List ℕ) (text : T → List ℕ) → line.now ≡ word ++ line_feed → ((v : T) → T.output v ≡ Some (text v)) → IfOk result (λ s. string_bytes s ≡ verdict_answer word text verdict) }
 {
     match verdict {
-        None => format!(in heap; "{word}\n"),
+        None => String::from_str(heap, line),
         Some(what) => format!(in heap; "{what}\n"),
     }
 }
@@ -109,12 +109,12 @@ fn verdict_text<T: Display + Drop>(
 pub fn order_verdict_text(heap: Global, verdict: Option<Torn>) -> Result<String, AllocError>
     ensures { IfOk result (λ s. string_bytes s ≡ order_verdict_answer verdict) }
 {
-    verdict_text(heap, "fits", verdict)
+    verdict_text(heap, "fits\n", verdict)
 }
 
 // The text of what is said of a ring from elsewhere, or want of memory.
 pub fn ring_verdict_text(heap: Global, verdict: Option<NoClash>) -> Result<String, AllocError>
     ensures { IfOk result (λ s. string_bytes s ≡ ring_verdict_answer verdict) }
 {
-    verdict_text(heap, "ground", verdict)
+    verdict_text(heap, "ground\n", verdict)
 }

@@ -1,5 +1,5 @@
 -- The text of branches, one branch after the other.
-use Rattle.std.proofs.Common.{◌≡◌, ℕ, ◌<◌, ◌≤◌, List, ◌++◌, codes, decimal, sym, refl, ap, ◌∙◌, append_assoc, append-nil, arith}
+use Rattle.std.proofs.Common.{◌≡◌, ℕ, ◌<◌, ◌≤◌, cond, List, ◌++◌, codes, decimal, is_ok, Ok, Err, Result, OnOk, sym, refl, ap, ◌∙◌, append_assoc, append-nil, arith}
 use lib.Count.{count_trailing_zeros}
 use Rattle.finds.specs.Branches.{◌+++◌}
 use Rattle.finds.specs.Trees.{Tree, grave, any, row, Trees, none, more, len}
@@ -47,3 +47,8 @@ row_shown R i (row ts) h e = refl
 pub around : (a o x k : List ℕ) {b c d y : List ℕ} → b ≡ a ++ o → c ≡ b ++ x → d ≡ c ++ k → o ++ (x ++ k) ≡ y → d ≡ a ++ y
 around a o x k e f g h =
     g ∙ ap (λ (z : List ℕ). z ++ k) (f ∙ ap (λ (z : List ℕ). z ++ x) e) ∙ append_assoc (a ++ o) x k ∙ append_assoc a o (x ++ k) ∙ ap (λ (z : List ℕ). a ++ z) h
+
+-- What is pushed is written if there is memory.
+pub pushed : {X Y : Type 0} (r : Result X Y) (a b c : List ℕ) → c ≡ cond (is_ok r) b a → OnOk r (c ≡ b)
+pushed (Ok x) a b c e = e
+pushed (Err y) a b c e = tt

@@ -1,7 +1,7 @@
 // Trees as text.
 #![tactic(auto)]
 
-ghost use Rattle.std.specs.Prelude.{◌≡◌, ◌++◌, IfOk, string_bytes, OnOk};
+ghost use Rattle.std.specs.Prelude.{◌≡◌, ◌<◌, ◌++◌, IfOk, decimal, string_bytes, OnOk};
 ghost use Rattle.finds.specs.Trees.{Tree};
 ghost use Rattle.trees.specs.Cells.{Holds, Sound};
 ghost use Rattle.trees.specs.Rows.{seen};
@@ -28,7 +28,7 @@ fn write_part(part: Subtree, out: &mut String) -> Result<(), AllocError>
     ensures { OnOk result ((t : Tree) → Is part.entry t → Sound t → string_bytes out.new ≡ string_bytes out.old ++ show t) }
 {
     let (open, close) = match part.sort() {
-        Sort::Grave => return write!(out, "{}", part.graves().trailing_zeros()),
+        Sort::Grave => return write_grave(part.graves().trailing_zeros() as u8, out),
         Sort::Any => ('{', '}'),
         Sort::Row => ('[', ']'),
     };
@@ -40,6 +40,18 @@ fn write_part(part: Subtree, out: &mut String) -> Result<(), AllocError>
         write_part(branch, out)?;
     }
     out.push(close)
+}
+
+// Writes the number of a grave, which has one digit or two. (By `write!` the text of a tree took twice the time.)
+fn write_grave(grave: u8, out: &mut String) -> Result<(), AllocError>
+    requires { grave < 100 }
+    ensures { OnOk result (string_bytes out.new ≡ string_bytes out.old ++ decimal grave) }
+{
+    if grave < 10 {
+        return out.push((b'0' + grave) as char);
+    }
+    out.push((b'0' + grave / 10) as char)?;
+    out.push((b'0' + grave % 10) as char)
 }
 
 // The definition at work: two trees and their texts.

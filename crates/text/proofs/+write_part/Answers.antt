@@ -1,4 +1,4 @@
-use Rattle.std.proofs.Common.{◌≡◌, ℕ, ◌+◌, ◌⊎◌, List, ◌++◌, cond, decimal, is_ok, Ok, Err, Result, OnOk, string_bytes, sym, ap, ◌∙◌, subst, inl, inr, append-nil, arith}
+use Rattle.std.proofs.Common.{◌≡◌, ℕ, ◌+◌, ◌⊎◌, List, ◌++◌, decimal, string_bytes, sym, ap, ◌∙◌, subst, inl, inr, append-nil, arith}
 use Rattle.std.proofs.lemmas.Result.{on_ok_weaker}
 use lib.Count.{count_trailing_zeros}
 use lib.Utf8.{encode}
@@ -9,14 +9,14 @@ use Rattle.trees.specs.Rows.{seen}
 use Rattle.trees.proofs.Finding.{had_standing}
 use Rattle.trees.proofs.Stepping.{going_start, going_within, going_next, going_more, going_end, branch_sound}
 use Rattle.text.specs.Show.{show, shows}
-use Rattle.text.proofs.Showing.{first_written, next_written, grave_shown, any_shown, row_shown, around}
+use Rattle.text.proofs.Showing.{first_written, next_written, grave_shown, any_shown, row_shown, around, pushed}
 use Rattle.text.proofs.+write_part.Goals as goal
 use Rattle.text.proofs.+write_part.Goals.{in-Any, in-Row, then-k-gt0+in_ok-push-2, else-k-gt0}
 
 pub returns-in-Grave : goal.returns-in-Grave
-returns-in-Grave m c = on_ok_weaker c.write.result (λ e u p s.
+returns-in-Grave m c = on_ok_weaker c.write_grave.result (λ e u p s.
     e ∙ ap (λ (z : List ℕ). string_bytes c.args.out.now ++ z)
-    (ap (λ (z : ℕ). decimal (count_trailing_zeros 64 z)) c.graves.ensures ∙ grave_shown (seen c.args.part.rows) c.args.part.root u p.0 s (sym c.in-Grave.ensures))) c.write.ensures.bytes
+    (ap (λ (z : ℕ). decimal (count_trailing_zeros 64 z)) c.graves.ensures ∙ grave_shown (seen c.args.part.rows) c.args.part.root u p.0 s (sym c.in-Grave.ensures))) c.write_grave.ensures
 
 pub loop-k-init : goal.loop-k-init
 loop-k-init m c = going_start _ c.branches.ensures (ap (λ x. x.iter) c.into_iter-k-iterator.ensures.into_iter_gives ∙ c.enumerate-k-items.ensures.source)
@@ -41,11 +41,6 @@ loop-k-preserved m c = going_more _ c.loop-k.invariant c.in-Some.ensures.steps.0
         | else-k-gt0 w ↦ first_written x.done x.it _ (string_bytes c.if-k-gt0.out) _ (omega (arith, w.if-k-gt0.false)) (ap string_bytes w.out-is ∙ x.so.1 s) e
       ],
 ))
-
--- What is pushed is written if there is memory.
-pushed : {X Y : Type 0} (r : Result X Y) (a b c : List ℕ) → c ≡ cond (is_ok r) b a → OnOk r (c ≡ b)
-pushed (Ok x) a b c e = e
-pushed (Err y) a b c e = tt
 
 -- The brackets are those of the sort.
 brackets : (R : Cells) (i : ℕ) (t : Tree) {o : ℕ × ℕ} → Body R i t → ((R.sort i ≡ 1) × (o ≡ (123, 125))) ⊎ ((R.sort i ≡ 2) × (o ≡ (91, 93))) → encode o.0 ++ (shows (kids t) ++ encode o.1) ≡ show t
