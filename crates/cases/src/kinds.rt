@@ -41,15 +41,14 @@ fn fits(file: &[u8], kinds: &[Graves], order: &[u8]) -> Option<bool> {
 
 // The tree in the rows, and all orders.
 fn compare(view: View, count: usize, file: &[u8], kinds: &[Graves], orders: &[Vec<u8>]) -> Seen {
-    let agree = |order: &Vec<u8>| {
-        let fits = fits(file, kinds, order.as_slice());
-        fits.is_some() && allows(view, count, order.as_slice()) == fits
-    };
-    if orders.iter().all(agree) {
-        let fitting = |order: &&Vec<u8>| are_together(order.as_slice(), kinds);
-        Seen::Orders(orders.iter().filter(fitting).count())
-    } else {
-        Seen::Differs
+    let found = orders.iter().try_fold(0, |found: usize, order| {
+        let fits = fits(file, kinds, order.as_slice())?;
+        let agrees = allows(view, count, order.as_slice()) == Some(fits);
+        agrees.then_some(found.saturating_add(usize::from(fits)))
+    });
+    match found {
+        Some(found) => Seen::Orders(found),
+        None => Seen::Differs,
     }
 }
 

@@ -31,10 +31,25 @@ use reading::{print_table, room_of};
 use std::alloc::Global;
 use wholes::print_whole;
 
-// The bytes that two hexadecimal digits each stand for; `-` stands for none.
-// Each test program has this line of its own: a library's function would need a contract and a test for it.
+// The bytes that two digits of `0` to `9` and `a` to `f` each stand for. Two others, and one that is left over, are passed over, so `-` stands for none.
+// Each test program has these lines of its own: a library's function would need a contract and a test for it.
 fn bytes_of(heap: Global, text: &str) -> Result<Vec<u8>, FromHexError> {
-    hex::decode(heap, if text == "-" { "" } else { text })
+    let (pairs, _) = text.as_bytes().as_chunks::<2>();
+    if pairs.iter().all(is_byte) {
+        return hex::decode(heap, &text.as_bytes()[..2 * pairs.len()]);
+    }
+    let digits: Vec<u8> = pairs
+        .iter()
+        .filter(|pair| is_byte(*pair))
+        .flat_map(|pair| *pair)
+        .collect(heap)?;
+    hex::decode(heap, digits.as_slice())
+}
+
+// Whether both are digits as they are written here.
+fn is_byte(pair: &[u8; 2]) -> bool {
+    pair.iter()
+        .all(|digit| matches!(*digit, b'0'..=b'9' | b'a'..=b'f'))
 }
 
 // One case by its words.
