@@ -5,7 +5,7 @@ ghost use Rattle.std.specs.Prelude.{◌≡◌, ℕ, ◌/◌, ◌<◌, length, sl
 ghost use Rattle.tables.specs.Format.{kind_set, sets_in};
 ghost use Rattle.tables.specs.Kinds.{sets_left};
 
-use crate::reading::kind_at;
+use crate::reading::word;
 
 // The kinds that stand in these bytes, eight bytes for each; fewer bytes at the end stand for nothing.
 #[derive(Clone, Copy, Drop)]
@@ -36,6 +36,6 @@ impl Iterator for Kinds<'_> {
     fn next(&mut self) -> Option<u64> {
         let (kind, rest) = self.bytes.split_at_checked(8)?;
         self.bytes = rest;
-        Some(kind_at(kind, 0))
+        Some(word(kind))
     }
 }

@@ -69,7 +69,7 @@ fn shortage(lent: Option<Room>, n: u8, m: u8) -> Option<Lent>
 }
 
 // A kind's graves from its eight bytes, low byte first.
-fn word(bytes: &[u8]) -> u64
+pub(crate) fn word(bytes: &[u8]) -> u64
     requires { length bytes.now ≡ 8 }
     ensures { result ≡ word_at bytes.now 0 }
 {

@@ -3,7 +3,7 @@ ghost use Rattle.std.specs.Prelude.{◌≡◌, ℕ, ◌/◌, ◌<◌, ◌≤◌,
 ghost use Rattle.finds.specs.Sets.{has};
 ghost use Rattle.tables.specs.Format.{kind_set, finds_in, finds_of_sets};
 
-use crate::kinds::Kinds;
+use crate::reading::kind_at;
 use crate::stored::Table;
 
 // Whether the grave is in the set.
@@ -21,8 +21,10 @@ pub fn kind_sets(table: Table, sets: &mut [u64]) -> usize
     ensures finds { finds_in table.entry.graves table.entry.kinds.now ≡ finds_of_sets table.entry.graves (take result sets.new) }
     ensures rest { drop result sets.new ≡ drop result sets.old }
 {
-    for (i, set) in Kinds::of(table.kinds).enumerate() {
-        sets[i] = set;
+    let count = table.kinds.len() / 8;
+    // i is the number of the kind, and of the cell.
+    for i in 0..count {
+        sets[i] = kind_at(table.kinds, i);
     }
-    table.kinds.len() / 8
+    count
 }
