@@ -31,7 +31,7 @@ use reading::{print_table, room_of};
 use std::alloc::Global;
 use wholes::print_whole;
 
-// The bytes that two digits of `0` to `9` and `a` to `f` each stand for. Two others, and one that is left over, are passed over, so `-` stands for none.
+// The bytes that two digits of `0` to `9` and `a` to `f` each stand for. A pair with anything else in it, and what is left over, is passed over, so `-` stands for none.
 // Each test program has these lines of its own: a library's function would need a contract and a test for it.
 fn bytes_of(heap: Global, text: &str) -> Result<Vec<u8>, FromHexError> {
     let (pairs, _) = text.as_bytes().as_chunks::<2>();

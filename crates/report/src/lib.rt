@@ -91,7 +91,7 @@ pub fn refusal_text(heap: Global, refusal: Refusal) -> Result<String, AllocError
     format!(in heap; "{refusal}\n")
 }
 
-// The text of what is amiss, or the line for that nothing is, or want of memory.
+// The text of what is amiss, or, where nothing is, this line; or want of memory.
 fn verdict_text<T: Display + Drop>(
     heap: Global,
     line: &str,

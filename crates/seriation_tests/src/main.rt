@@ -13,7 +13,7 @@ use tables::orders::verify_order;
 use trees::allowed::allows;
 use trees::rows::{Rows, View};
 
-// The bytes that two digits of `0` to `9` and `a` to `f` each stand for. Two others, and one that is left over, are passed over.
+// The bytes that two digits of `0` to `9` and `a` to `f` each stand for. A pair with anything else in it, and what is left over, is passed over.
 // Each test program has these lines of its own: a library's function would need a contract and a test for it.
 fn bytes_of(heap: Global, text: &str) -> Result<Vec<u8>, FromHexError> {
     let (pairs, _) = text.as_bytes().as_chunks::<2>();

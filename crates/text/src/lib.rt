@@ -42,7 +42,7 @@ fn write_part(part: Subtree, out: &mut String) -> Result<(), AllocError>
     out.push(close)
 }
 
-// Writes the number of a grave, which has one digit or two. (By `write!` the text of a tree took twice the time.)
+// Writes the number of a grave, which has one digit or two. (By `write!` the text of a tree takes twice the time.)
 fn write_grave(grave: u8, out: &mut String) -> Result<(), AllocError>
     requires { grave < 100 }
     ensures { OnOk result (string_bytes out.new ≡ string_bytes out.old ++ decimal grave) }

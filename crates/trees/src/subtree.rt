@@ -88,6 +88,7 @@ impl<'a> Subtree<'a> {
         ensures same { IfSome result (Within self.entry) }
         ensures found { (t : Tree) → Is self.entry t → MatchOption result (bit grave (sets_of (kids t)) ≡ 0) (λ b. BranchWith self.entry.root grave t b.root) }
     {
+        // The walk is looked ahead on: where a branch ends is sought only before the next one.
         let mut left = self.branches();
         while let Some(branch) = left.peek() {
             if contains(branch.graves(), grave) {
