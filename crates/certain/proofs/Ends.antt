@@ -62,6 +62,7 @@ leaf R i (grave g) b e = refl
 leaf R i (any ts) b e = absurd (omega (arith, b.0))
 leaf R i (row ts) b e = absurd (omega (arith, b.0))
 
+-- A sound tree without branches has the cell of a grave.
 bare : (R : Cells) (i : ℕ) (u : Tree) → Body R i u → Sound u → kids u ≡ none → R.sort i ≡ 0
 bare R i (grave g) b s e = b.0
 bare R i (any ts) b s e = absurd (let n = ap len e in omega (arith, s.good.0))

@@ -32,6 +32,7 @@ impl Search<'_> {
     // Forgets which pairs were seen. Of a pair that is not seen no other cell is read, so the others are left as they are.
     pub fn forget(&mut self)
         ensures fresh { Fresh self.old.sets.graves self.new }
+        ensures others { (self.new.parents.now ≡ self.old.parents.now) × (self.new.queue.now ≡ self.old.queue.now) }
         ensures same { SameCells self.old self.new }
     {
         self.depths.fill(0);
@@ -43,10 +44,9 @@ impl Search<'_> {
         ensures blank { Blank self.old.sets.graves self.new }
         ensures same { SameCells self.old self.new }
     {
-        self.depths.fill(0);
+        self.forget();
         self.parents.fill(0);
         self.queue.fill(0);
-        self.tail = 0;
     }
 
     // Notes a pair that was not seen, one deeper than its parent. A seed is its own parent, so that its depth is 1.
